@@ -1,0 +1,5 @@
+pub mod Limits
+pub mod Layout
+pub mod Rows
+pub mod Laws
+pub mod Cases

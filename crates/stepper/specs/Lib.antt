@@ -1,0 +1,4 @@
+pub mod Workers
+pub mod States
+pub mod Opening
+pub mod Cases

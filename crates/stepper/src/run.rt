@@ -1,0 +1,10 @@
+// A run: a cell memory, held by value, beside the sizes and the records of the workers.
+use crate::worker::Table;
+use layout::sizes::Sizes;
+
+#[derive(Drop)]
+pub struct Run<M> {
+    pub memory: M,
+    pub sizes: Sizes,
+    pub table: Table,
+}
