@@ -32,7 +32,8 @@ impl Sizes {
         }
     }
 
-    fn page_size(&self) -> usize
+    // How many cells a page has.
+    pub fn page_size(&self) -> usize
         ensures { λ r. ⌜ r ≡ pageSize (now (self .entry)) ⌝ }
     {
         self.keys + self.keys * self.keys
@@ -74,7 +75,7 @@ impl Sizes {
     }
 
     // Where a worker's page starts.
-    fn page_start(&self, w: u8) -> usize
+    pub fn page_start(&self, w: u8) -> usize
         ensures { λ r. ⌜ r ≡ pageStart (now (self .entry)) w ⌝ }
     {
         self.page_base() + w as usize * self.page_size()

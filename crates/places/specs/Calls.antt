@@ -1,5 +1,5 @@
 -- Which call a begin asks for, why it is refused, and where the call starts.
-use mathlib.Core.Bool.{Bool, true, false, cond, _&&_, not}
+use mathlib.Core.Bool.{Bool, true, cond, _&&_, not}
 use Prim.Native.Nat.{ℕ}
 use lib.Dec.{eqb, ltb, leb}
 use Rattle.std.specs.declared.result.Result.{Result}

@@ -1,5 +1,5 @@
 -- What follows from a place and what its turn gave.
-use mathlib.Core.Bool.{Bool, true, false, cond}
+use mathlib.Core.Bool.{Bool, cond}
 use Prim.Native.Nat.{ℕ}
 use lib.Dec.{eqb}
 use Rattle.codes.specs.declared.answer.Answer.the-variants.{VertexAlready, RowsSpent, ClockSpent}

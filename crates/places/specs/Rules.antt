@@ -3,7 +3,7 @@ use mathlib.Core.Bool.{Bool, true, false, cond, _&&_}
 use Prim.Native.Nat.{ℕ}
 use lib.Dec.{eqb, ltb}
 use Rattle.codes.specs.declared.answer.Answer.{Answer}
-use Rattle.codes.specs.declared.answer.Answer.the-variants.{VertexAdded, VertexAlready, VertexRemoved, VertexAbsent, VertexPresent, EdgeAdded, EdgeAlready, EdgeRemoved, EdgeAbsent, EdgePresent, RowsSpent}
+use Rattle.codes.specs.declared.answer.Answer.the-variants.{VertexAdded, VertexAlready, VertexRemoved, VertexAbsent, VertexPresent, EdgeAdded, EdgeAlready, EdgeRemoved, EdgeAbsent, EdgePresent}
 use Rattle.layout.specs.declared.names.Field.{Field}
 use Rattle.layout.specs.declared.names.Field.the-variants.{Ins, Del}
 use Rattle.places.specs.Marks.{markOf, stampOf}
