@@ -1,5 +1,9 @@
 // A run of the versioned contact graph, one atomic step a turn, over any cell memory.
 pub mod laws;
 pub mod open;
+pub mod perform;
+pub mod request;
 pub mod run;
+pub mod table;
+pub mod turn;
 pub mod worker;

@@ -1,5 +1,5 @@
 // A run: a cell memory, held by value, beside the sizes and the records of the workers.
-use crate::worker::Table;
+use crate::table::Table;
 use layout::sizes::Sizes;
 
 #[derive(Drop)]

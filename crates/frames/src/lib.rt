@@ -1,0 +1,15 @@
+// The lines of text that are read as frames, and the lines that are written in reply.
+pub mod frame;
+mod hex;
+mod laws;
+mod read;
+pub mod reply;
+mod write;
+
+pub use frame::Frame;
+pub use laws::cases_stand;
+pub use read::parse;
+pub use reply::Code;
+pub use reply::Reply;
+pub use write::write_page;
+pub use write::write_reply;

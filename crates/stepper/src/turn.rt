@@ -1,0 +1,94 @@
+// One turn of a worker.
+ghost use mathlib.Core.Path.{_≡_};
+ghost use Prim.Native.Nat.{_<_};
+ghost use lib.ListN.{getD};
+ghost use Rattle.stepper.specs.States.{stateOf};
+ghost use Rattle.stepper.specs.Workers.{nobody};
+ghost use Rattle.stepper.specs.Turns.{cellAt, nextRow, spareFor, olderAt, edgeAt, handOf, handAt, answerAt, turned};
+use crate::perform::enter;
+use crate::perform::perform;
+use crate::run::Run;
+use cells::CellMemory;
+use codes::Answer;
+use layout::names::Cell;
+use layout::names::Kind;
+use layout::sizes::Sizes;
+use places::place::Hand;
+use places::place::Place;
+
+// The number in a named cell.
+fn look<M: CellMemory>(memory: &M, sizes: Sizes, cell: Cell) -> u32
+    ensures { λ r. ⌜ r ≡ cellAt sizes (cells (now (memory .entry))) cell ⌝ }
+{
+    memory.read(sizes.index(cell)).unwrap_or(0)
+}
+
+// Older of a row, where one is wanted.
+fn older<M: CellMemory>(memory: &M, sizes: Sizes, row: Option<(Kind, u32)>) -> u32
+    ensures { λ r. ⌜ r ≡ olderAt sizes (cells (now (memory .entry))) row ⌝ }
+{
+    match row {
+        Some((kind, row)) => look(memory, sizes, Cell::Older(kind, row)),
+        None => 0,
+    }
+}
+
+impl<M: CellMemory> Run<M> {
+    // The worker's next row of the kind that it links, or 0.
+    fn spare(&self, w: u8, kind: Option<Kind>) -> u32
+        requires { ⌜ w < 8 ⌝ }
+        ensures { λ r. ⌜ r ≡ spareFor (now (self .entry) .sizes) w (getD (now (self .entry) .table .workers) w nobody) kind ⌝ }
+    {
+        match kind {
+            Some(kind) => {
+                let linked = self.table.workers[w as usize].linked(kind);
+                self.sizes.row_at(kind, w, linked).unwrap_or(0)
+            }
+            None => 0,
+        }
+    }
+
+    // What the worker has at hand without a turn.
+    fn hand(&self, w: u8, place: Place) -> Hand
+        requires { ⌜ w < 8 ⌝ }
+        ensures { λ r. ⌜ r ≡ handOf (now (self .entry) .sizes) (cells (now (self .entry) .memory)) w (getD (now (self .entry) .table .workers) w nobody) place ⌝ }
+    {
+        let spare = self.spare(w, place.link_kind());
+        let t = self.table.workers[w as usize].book.t;
+        let older = older(&self.memory, self.sizes, place.older_row());
+        let edge = place.edge_row();
+        if edge == 0 {
+            return Hand {
+                spare,
+                t,
+                older,
+                source: 0,
+                target: 0,
+                weight: 0,
+            };
+        }
+        Hand {
+            spare,
+            t,
+            older,
+            source: look(&self.memory, self.sizes, Cell::Source(edge)),
+            target: look(&self.memory, self.sizes, Cell::Target(edge)),
+            weight: look(&self.memory, self.sizes, Cell::Weight(edge)),
+        }
+    }
+
+    // One turn: one touch, and what follows from the place and what the touch gave.
+    pub fn advance(&mut self, w: u8) -> Option<Answer>
+        requires { ⌜ w < 8 ⌝ }
+        ensures answer { λ r. ⌜ r ≡ answerAt (stateOf cells (now (self .entry))) w ⌝ }
+        ensures after { λ _. ⌜ stateOf cells (now (self .exit)) ≡ turned (stateOf cells (now (self .entry))) w ⌝ }
+    {
+        let place = self.table.workers[w as usize].place;
+        let hand = self.hand(w, place);
+        let got = perform(&mut self.memory, self.sizes, place.touch(hand.spare));
+        let step = self.table
+            .follow(w as usize, self.sizes, hand, place.next(hand, got));
+        enter(&mut self.memory, self.sizes, w, step.entry);
+        step.answer
+    }
+}
