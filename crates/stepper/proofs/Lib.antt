@@ -1,2 +1,5 @@
 mod Clearing
 mod Bounds
+mod Extending
+mod Busy
+mod Giving

@@ -1,5 +1,5 @@
 -- One turn of a worker: what it has at hand, and what the turn makes of the state.
-use mathlib.Core.Bool.{Bool, true, false, cond}
+use mathlib.Core.Bool.{cond}
 use mathlib.Core.List.{List}
 use Prim.Native.Nat.{ℕ}
 use lib.Dec.{eqb}

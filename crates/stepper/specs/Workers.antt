@@ -26,7 +26,6 @@ use Rattle.books.specs.declared.walked.Entry.{Entry}
 use Rattle.books.specs.declared.walked.Entry.the-variants as entry
 use Rattle.books.specs.Books.{blank}
 use Rattle.books.specs.Walked.{walkedOf, Outcome}
-use Rattle.stepper.specs.declared.worker.PageState.{PageState}
 use Rattle.stepper.specs.declared.worker.PageState.the-variants.{Unfinished, Finished}
 use Rattle.stepper.specs.declared.worker.Worker.{Worker}
 

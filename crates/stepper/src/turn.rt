@@ -2,7 +2,11 @@
 ghost use mathlib.Core.Path.{_≡_};
 ghost use Prim.Native.Nat.{_<_};
 ghost use lib.ListN.{getD};
+ghost use Rattle.std.specs.declared.option.Option.the-variants.{None};
 ghost use Rattle.stepper.specs.States.{stateOf};
+ghost use Rattle.stepper.specs.Requests.{turnRefused, turnAnswer, answeredOr, stepped};
+ghost use Rattle.stepper.specs.History.{Extends};
+ghost use Rattle.stepper.specs.declared.request.Request.the-variants.{Turn};
 ghost use Rattle.stepper.specs.Workers.{nobody};
 ghost use Rattle.stepper.specs.Turns.{cellAt, nextRow, spareFor, olderAt, edgeAt, handOf, handAt, answerAt, turned};
 use crate::perform::enter;
@@ -10,6 +14,7 @@ use crate::perform::perform;
 use crate::run::Run;
 use cells::CellMemory;
 use codes::Answer;
+use codes::Refusal;
 use layout::names::Cell;
 use layout::names::Kind;
 use layout::sizes::Sizes;
@@ -90,5 +95,30 @@ impl<M: CellMemory> Run<M> {
             .follow(w as usize, self.sizes, hand, place.next(hand, got));
         enter(&mut self.memory, self.sizes, w, step.entry);
         step.answer
+    }
+
+    // Why a turn is refused.
+    pub fn turn_refused(&self, w: u8) -> Option<Refusal>
+        ensures answer { λ r. ⌜ r ≡ turnRefused (stateOf cells (now (self .entry))) w ⌝ }
+        ensures within { λ r. ⌜ (r ≡ None → w < 8) ⌝ }
+    {
+        if w as usize >= self.sizes.workers {
+            return Some(Refusal::NoSuchWorker);
+        }
+        if self.table.workers[w as usize].is_idle() {
+            return Some(Refusal::WorkerIdle);
+        }
+        None
+    }
+
+    pub fn turn(&mut self, w: u8) -> Result<Option<Answer>, Refusal>
+        ensures answer { λ r. ⌜ r ≡ turnAnswer (stateOf cells (now (self .entry))) w ⌝ }
+        ensures after { λ _. ⌜ stateOf cells (now (self .exit)) ≡ stepped (stateOf cells (now (self .entry))) (Turn w) ⌝ }
+        ensures history { λ r. ⌜ Extends (stateOf cells (now (self .entry))) (stateOf cells (now (self .exit))) (Turn w) (answeredOr r) ⌝ }
+    {
+        match self.turn_refused(w) {
+            Some(refusal) => Err(refusal),
+            None => Ok(self.advance(w)),
+        }
     }
 }

@@ -1,4 +1,3 @@
-use mathlib.Core.Bool.{false}
 use borrow.Author.Needs.{needs}
 use Rattle.std.proofs.shelf.Lists.{take-all}
 use Rattle.frames.specs.Hex.{hexOf}
