@@ -59,12 +59,24 @@ fn open<M: CellMemory>(desk: Desk<M>, sizes: Sizes) -> Answered<M>
 {
     match desk {
         Desk::Closed(memory) => match Run::open(memory, sizes) {
-            Ok(run) => Answered { desk: Desk::Open(run), reply: Reply::ToOpen(Code::Done) },
-            Err((memory, refusal)) => Answered { desk: Desk::Closed(memory), reply: Reply::ToOpen(Code::Refused(refusal)) },
+            Ok(run) => Answered {
+                desk: Desk::Open(run),
+                reply: Reply::ToOpen(Code::Done),
+            },
+            Err((memory, refusal)) => Answered {
+                desk: Desk::Closed(memory),
+                reply: Reply::ToOpen(Code::Refused(refusal)),
+            },
         },
         Desk::Open(mut run) => match run.reopen(sizes) {
-            Ok(()) => Answered { desk: Desk::Open(run), reply: Reply::ToOpen(Code::Done) },
-            Err(refusal) => Answered { desk: Desk::Open(run), reply: Reply::ToOpen(Code::Refused(refusal)) },
+            Ok(()) => Answered {
+                desk: Desk::Open(run),
+                reply: Reply::ToOpen(Code::Done),
+            },
+            Err(refusal) => Answered {
+                desk: Desk::Open(run),
+                reply: Reply::ToOpen(Code::Refused(refusal)),
+            },
         },
     }
 }
@@ -74,15 +86,42 @@ fn serve<M: CellMemory>(desk: Desk<M>, frame: Frame) -> Answered<M>
     ensures { λ r. ⌜ Asked (sessionOf cells desk) frame (r .reply) (sessionOf cells (r .desk)) ⌝ }
 {
     match (desk, frame) {
-        (Desk::Open(mut run), Frame::Begin { worker, call, from, to, weight }) => {
-            let reply = begin(&mut run, Begin { worker, call, from, to, weight });
-            Answered { desk: Desk::Open(run), reply }
+        (
+            Desk::Open(mut run),
+            Frame::Begin {
+                worker,
+                call,
+                from,
+                to,
+                weight,
+            },
+        ) => {
+            let reply = begin(
+                &mut run,
+                Begin {
+                    worker,
+                    call,
+                    from,
+                    to,
+                    weight,
+                },
+            );
+            Answered {
+                desk: Desk::Open(run),
+                reply,
+            }
         }
         (Desk::Open(mut run), Frame::Turns { worker, count }) => {
             let reply = turns(&mut run, worker, count);
-            Answered { desk: Desk::Open(run), reply }
+            Answered {
+                desk: Desk::Open(run),
+                reply,
+            }
         }
-        (desk, _) => Answered { desk, reply: Reply::NoFrame },
+        (desk, _) => Answered {
+            desk,
+            reply: Reply::NoFrame,
+        },
     }
 }
 
@@ -91,11 +130,31 @@ pub fn answer<M: CellMemory>(desk: Desk<M>, line: &[u8]) -> Answered<M>
     ensures { λ r. ⌜ Replies (sessionOf cells desk) (frameIn (bytesOf (now (line .entry)))) (r .reply) (sessionOf cells (r .desk)) ⌝ }
 {
     match frames::parse(line) {
-        None => Answered { desk, reply: Reply::NoFrame },
-        Some(Frame::Open { keys, workers, vrows, erows, top }) => {
-            match Sizes::new(keys as usize, workers as usize, vrows as usize, erows as usize, top) {
+        None => Answered {
+            desk,
+            reply: Reply::NoFrame,
+        },
+        Some(
+            Frame::Open {
+                keys,
+                workers,
+                vrows,
+                erows,
+                top,
+            },
+        ) => {
+            match Sizes::new(
+                keys as usize,
+                workers as usize,
+                vrows as usize,
+                erows as usize,
+                top,
+            ) {
                 Ok(sizes) => open(desk, sizes),
-                Err(refusal) => Answered { desk, reply: Reply::ToOpen(Code::Refused(refusal)) },
+                Err(refusal) => Answered {
+                    desk,
+                    reply: Reply::ToOpen(Code::Refused(refusal)),
+                },
             }
         }
         Some(frame) => serve(desk, frame),

@@ -1,6 +1,6 @@
 -- Several turns of one worker, one after another.
 use mathlib.Core.Bool.{Bool, true, false, cond}
-use mathlib.Core.Path.{_≡_, refl, ap, sym, _∙_}
+use mathlib.Core.Path.{_≡_, refl, ap, sym, subst, _∙_}
 use Prim.Native.Nat.{ℕ, zero, suc, _+_, _<_}
 use native.Mathlib.Omega.{arith}
 use native.Mathlib.Numerals.{add-one}
@@ -16,7 +16,7 @@ use Rattle.stepper.specs.States.{State}
 use Rattle.stepper.specs.Turns.{workerAt, answerAt, turned}
 use Rattle.stepper.specs.Requests.{isIdle, turnRefused, answeredOr, unlessRefused, stateOr}
 use Rattle.stepper.specs.History.{Continues}
-use Rattle.stepper.specs.Several.{after, turnEvents, Gave}
+use Rattle.stepper.specs.Several.{after, turnEvents, Gave, Outcome, stopping, given, Given-gives}
 use Rattle.stepper.proofs.Busy.{turned-busy}
 
 -- a turn that is not refused is of a worker that there is, in its call
@@ -83,3 +83,23 @@ gave-all s t w n i l e q = record {
   last = λ k h. q k (omega arith);
   all = λ x. refl;
 }
+
+abbrev GaveAs : State → ℕ → ℕ → Outcome → Type 0
+GaveAs s w n o = Gave s w n (o .several .answer) (o .several .used) (o .state)
+
+abbrev Quiet : State → ℕ → ℕ → Type 0
+Quiet s w i = (k : ℕ) → k < i → answerAt (after s w k) w ≡ None
+
+given-stop : (s t : State) (w n i : ℕ) (a : Option Answer) (rest : Outcome) → i < n → t ≡ after s w i → Quiet s w i → a ≡ answerAt t w → (turned t w ≡ after s w (i + 1) → Quiet s w (i + 1) → GaveAs s w n rest) → GaveAs s w n (stopping a (turned t w) (i + 1) rest)
+given-stop s t w n i None rest l e q g more = let p = gave-more s t (turned t w) w i e q g refl in more (p .0) (p .1)
+given-stop s t w n i (Some a) rest l e q g more = gave-answer s t (turned t w) w n i a l e q g refl
+
+-- what `given` computes is what was given
+given-from : (s t : State) (w n i m : ℕ) → i + m ≡ n → t ≡ after s w i → Quiet s w i → GaveAs s w n (given t w i m)
+given-from s t w n i zero l e q = let f : i ≡ n = omega arith in subst (λ u. Gave s w n None u t) (sym f) (gave-all s t w n i f e q)
+given-from s t w n i (suc m) l e q =
+    given-stop s t w n i (answerAt t w) (given (turned t w) w (i + 1) m) (omega arith) e q refl
+    (λ f p. given-from s (turned t w) w n (i + 1) m (omega arith) f p)
+
+pub given-gives : Given-gives
+given-gives s w n = given-from s s w n 0 n (omega arith) refl (λ k h. absurd (omega arith))

@@ -6,4 +6,3 @@ pub mod Turns
 pub mod Requests
 pub mod History
 pub mod Several
-pub mod Cases

@@ -43,3 +43,19 @@ GaveOr s w n (Ok x) s′ = (None ≡ turnRefused s w) × Gave s w n (x .answer) 
 abbrev pub GrewOr : State → ℕ → Result Several Refusal → State → Type 0
 GrewOr s w (Err e) s′ = Extends s s′ (Turn w) (Refused e)
 GrewOr s w (Ok x) s′ = Continues s s′ (turnEvents s w (x .used))
+
+-- The same as one function: turns until one answers or none is left.
+pub record Outcome : Type 0 where
+  pub several : Several
+  pub state : State
+
+abbrev pub stopping : Option Answer → State → ℕ → Outcome → Outcome
+stopping None s used more = more
+stopping (Some a) s used more = record { several = record { answer = Some a; used = used }; state = s }
+
+abbrev pub given : State → ℕ → ℕ → ℕ → Outcome
+given s w used zero = record { several = record { answer = None; used = used }; state = s }
+given s w used (suc n) = stopping (answerAt s w) (turned s w) (used + 1) (given (turned s w) w (used + 1) n)
+
+abbrev pub Given-gives : Type 0
+Given-gives = (s : State) (w n : ℕ) → Gave s w n (given s w 0 n .several .answer) (given s w 0 n .several .used) (given s w 0 n .state)

@@ -1,8 +1,9 @@
-// Worked cases and laws of runs.
-ghost use Rattle.stepper.specs.Cases.{Cases};
+// Laws of runs.
+ghost use Rattle.stepper.specs.Several.{Given-gives};
 
-pub fn cases_stand() -> u8
-    ensures { λ _. ⌜ Cases ⌝ }
+// What several turns give can be computed.
+pub fn given_gives() -> u8
+    ensures { λ _. ⌜ Given-gives ⌝ }
 {
     0
 }
