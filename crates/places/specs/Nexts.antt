@@ -44,11 +44,14 @@ settled (purpose.CompareTarget p s d f e x) h n = next.Out (unlessBelow x n (Don
 settled (purpose.WalkIns k r) h n = walkedIns k r h n
 settled (purpose.WalkDel k r) h n = walkedDel k r h n
 
+abbrev pub settleOn : Stage → Purpose → Next
+settleOn st p = next.Out (Go (place.Settle st p))
+
 -- Settling: where the field is pending, three turns more.
 abbrev pub settling : Stage → Purpose → Hand → ℕ → Next
-settling stage.First p h n = cond (eqb n pending) (next.Out (Go (place.Settle stage.Clock p))) (settled p h n)
-settling stage.Clock p h n = next.Out (Go (place.Settle (stage.Swap n) p))
-settling (stage.Swap m) p h n = next.Out (Go (place.Settle stage.Again p))
+settling stage.First p h n = cond (eqb n pending) (settleOn stage.Clock p) (settled p h n)
+settling stage.Clock p h n = settleOn (stage.Swap n) p
+settling (stage.Swap m) p h n = settleOn stage.Again p
 settling stage.Again p h n = settled p h n
 
 abbrev pub nextOf : Place → Hand → Got → Next

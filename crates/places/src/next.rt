@@ -1,6 +1,6 @@
 // What follows from a place and what its turn gave.
 ghost use mathlib.Core.Path.{_≡_};
-ghost use Rattle.places.specs.Nexts.{settled, linkDone, raiseDone, nextOf};
+ghost use Rattle.places.specs.Nexts.{settleOn, settled, linkDone, raiseDone, nextOf};
 ghost use Rattle.places.specs.Rules.{edgeChanged, endDone, lostLink};
 use crate::lookup::settle;
 use crate::lookup::unless_below;
@@ -18,6 +18,13 @@ use crate::place::Purpose;
 use crate::place::Stage;
 use codes::Answer;
 use layout::names::Field;
+
+// On to another turn of settling.
+fn settle_on(stage: Stage, purpose: Purpose) -> Next
+    ensures { λ r. ⌜ r ≡ settleOn stage purpose ⌝ }
+{
+    Next::Out(Out::Go(Place::Settle(stage, purpose)))
+}
 
 // The answer of a change of an edge.
 fn edge_changed(field: Field) -> Answer
@@ -111,18 +118,9 @@ impl Place {
             (Place::Idle, _) => Next::Out(Out::Go(Place::Idle)),
             (Place::Head(look), 0) => Next::Out(look.absent(0)),
             (Place::Head(look), row) => Next::Out(settle(Purpose::LookIns(look, row))),
-            (Place::Settle(Stage::First, purpose), PENDING) => Next::Out(Out::Go(Place::Settle(
-                Stage::Clock,
-                purpose,
-            ))),
-            (Place::Settle(Stage::Clock, purpose), stamp) => Next::Out(Out::Go(Place::Settle(
-                Stage::Swap(stamp),
-                purpose,
-            ))),
-            (Place::Settle(Stage::Swap(_), purpose), _) => Next::Out(Out::Go(Place::Settle(
-                Stage::Again,
-                purpose,
-            ))),
+            (Place::Settle(Stage::First, purpose), PENDING) => settle_on(Stage::Clock, purpose),
+            (Place::Settle(Stage::Clock, purpose), stamp) => settle_on(Stage::Swap(stamp), purpose),
+            (Place::Settle(Stage::Swap(_), purpose), _) => settle_on(Stage::Again, purpose),
             (Place::Settle(_, purpose), number) => purpose.settled(hand, number),
             (Place::Link(change, _), _) => change.link_done(hand.spare, got.done),
             (Place::End(change, row), _) => Next::Out(change.end_done(row, got.done)),
