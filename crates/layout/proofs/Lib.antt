@@ -1,3 +1,3 @@
-mod Regions
-mod Inverse
-mod Owners
+pub mod Regions
+pub mod Inverse
+pub mod Owners

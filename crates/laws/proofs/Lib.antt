@@ -1,0 +1,6 @@
+mod Puts
+mod Pages
+mod Entries
+mod Owned
+mod Touched
+mod Stays
