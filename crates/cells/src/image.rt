@@ -12,6 +12,14 @@ pub struct Image<'a> {
 }
 
 impl<'a> Image<'a> {
+    // How many cells there are.
+    fn count(&self) -> usize
+        ensures cells { λ r. ⌜ r ≡ length (wordsOf (now (self .entry) .bytes .now)) ⌝ }
+        ensures quarter { λ r. ⌜ r ≡ length (now (self .entry) .bytes .now) / 4 ⌝ }
+    {
+        self.bytes.len() / 4
+    }
+
     // The cell at `i`.
     fn get(&self, i: usize) -> u32
         requires { ⌜ i < length (now self .bytes .now) / 4 ⌝ }
@@ -43,7 +51,7 @@ pub impl<'a> CellMemory for Image<'a> as ImageMemory {
     ghost cells = { λ s. wordsOf (s .bytes .now) };
 
     fn len(&self) -> usize {
-        self.bytes.len() / 4
+        self.count()
     }
 
     fn bounded(&self) {
@@ -51,7 +59,7 @@ pub impl<'a> CellMemory for Image<'a> as ImageMemory {
     }
 
     fn read(&self, i: usize) -> Option<u32> {
-        if i < self.bytes.len() / 4 {
+        if i < self.count() {
             Some(self.get(i))
         } else {
             None
@@ -63,7 +71,7 @@ pub impl<'a> CellMemory for Image<'a> as ImageMemory {
         ensures after { λ _. ⌜ wordsOf (now (self .exit) .bytes .now) ≡ set (wordsOf (now (self .entry) .bytes .now)) i v ⌝ }
         ensures spare { λ _. ⌜ spareOf (now (self .exit) .bytes .now) ≡ spareOf (now (self .entry) .bytes .now) ⌝ }
     {
-        if i < self.bytes.len() / 4 {
+        if i < self.count() {
             self.put(i, v);
             Some(())
         } else {
@@ -76,7 +84,7 @@ pub impl<'a> CellMemory for Image<'a> as ImageMemory {
         ensures after { λ _. ⌜ wordsOf (now (self .exit) .bytes .now) ≡ swapped (wordsOf (now (self .entry) .bytes .now)) i old new ⌝ }
         ensures spare { λ _. ⌜ spareOf (now (self .exit) .bytes .now) ≡ spareOf (now (self .entry) .bytes .now) ⌝ }
     {
-        if i < self.bytes.len() / 4 {
+        if i < self.count() {
             if self.get(i) == old {
                 self.put(i, new);
                 Some(true)
@@ -93,7 +101,7 @@ pub impl<'a> CellMemory for Image<'a> as ImageMemory {
         ensures after { λ _. ⌜ wordsOf (now (self .exit) .bytes .now) ≡ raised (wordsOf (now (self .entry) .bytes .now)) i limit ⌝ }
         ensures spare { λ _. ⌜ spareOf (now (self .exit) .bytes .now) ≡ spareOf (now (self .entry) .bytes .now) ⌝ }
     {
-        if i < self.bytes.len() / 4 {
+        if i < self.count() {
             let was = self.get(i);
             if was < limit {
                 self.put(i, was + 1);

@@ -1,10 +1,7 @@
 use borrow.Author.Needs.{needs}
 use Rattle.std.proofs.shelf.Lists.{set-past}
-use Rattle.cells.proofs.FourBytes.{length-wordsOf}
 use Rattle.cells.proofs.image.ImageMemory.write.Needs as need
 
-pub returns-then-i-self : need.returns-then-i-self
-returns-then-i-self c = search (needs, length-wordsOf, set-past)
-
-pub returns-else-i-self : need.returns-else-i-self
-returns-else-i-self c = search (needs, length-wordsOf, set-past)
+-- past the end there is nothing to set
+pub returns-else-i-count : need.returns-else-i-count
+returns-else-i-count c = search (needs, set-past)
