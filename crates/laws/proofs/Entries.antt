@@ -63,8 +63,8 @@ settled-fits s (purpose.AgainSource o p x d g) h n f = tt
 settled-fits s (purpose.AgainTarget o p x d g) h n f = tt
 settled-fits s (purpose.CompareSource p x d g e m) h n f = tt
 settled-fits s (purpose.CompareTarget p x d g e m) h n f = tt
-settled-fits s (purpose.WalkIns k r) h n f = walkedIns-fits s k r h n (f .1)
-settled-fits s (purpose.WalkDel k r) h n f = f .1
+settled-fits s (purpose.WalkIns k r) h n f = walkedIns-fits s k r h n (f .0)
+settled-fits s (purpose.WalkDel k r) h n f = f .0
 
 settling-fits : (s : State) (st : Stage) (p : Purpose) (h : Hand) (n : ℕ) → FitPurpose s p → FitNext s (settling st p h n)
 settling-fits s stage.First p h n f = cond-fits s (eqb n pending) (settleOn stage.Clock p) (settled p h n) tt (settled-fits s p h n f)
@@ -83,7 +83,7 @@ nextOf-fits s (place.End c r) h g f = tt
 nextOf-fits s (place.LostHead i) h g f = tt
 nextOf-fits s (place.Raise v) h g f = cond-fits s (g .done) (next.Raised v (g .number)) (next.Out (Done ClockSpent)) tt tt
 nextOf-fits s (place.WalkHead k) h g f = cond-fits s (eqb (g .number) 0) (next.Walked k 0) (next.Out (first (purpose.WalkIns k (g .number)))) f tt
-nextOf-fits s (place.WalkOlder k r) h g f = walkedIns-fits s k r h (g .number) f
+nextOf-fits s (place.WalkOlder k r) h g f = walkedIns-fits s k r h (g .number) (f .0)
 
 cond-entry : (z : Sizes) (b : Bool) (x y : Outcome) → FitEntry z (x .entry) → FitEntry z (y .entry) → FitEntry z (cond b x y .entry)
 cond-entry z true x y f g = f

@@ -4,3 +4,8 @@ mod Entries
 mod Owned
 mod Touched
 mod Stays
+mod Outs
+mod Served
+mod Grows
+mod Counts
+mod LinkTurns

@@ -90,7 +90,7 @@ module _ (s : State) (w : ℕ) (f : Fit s w) where
   settled-of p y e = settled-field s p (subst (FitPlace s) e (f .place))
 
   ended-of : (d : Change) (r : ℕ) → workerAt s w .place ≡ place.End d r → Linked s (changeKind d) r
-  ended-of d r e = subst (FitPlace s) e (f .place)
+  ended-of d r e = let g : FitPlace s (place.End d r) = subst (FitPlace s) e (f .place) in g .1 .linked
 
   -- a cell that a turn has no way to change
   pub record Safe (c : Cell) : Type 0 where

@@ -47,18 +47,18 @@ pub record Settled (s : State) (p : Purpose) : Type 0 where
   pub linked : Linked s kind row
 
 pub settled-field : (s : State) (p : Purpose) → FitPurpose s p → Settled s p
-settled-field s (purpose.LookIns l r) f = record { kind = lookKind l; field = Ins; row = r; is = refl; named = linked-row s (lookKind l) r f; linked = f }
-settled-field s (purpose.LookDel l r) f = record { kind = lookKind l; field = Del; row = r; is = refl; named = linked-row s (lookKind l) r f; linked = f }
-settled-field s (purpose.Own g d r) f = record { kind = changeKind d; field = g; row = r; is = refl; named = linked-row s (changeKind d) r f; linked = f }
-settled-field s (purpose.LostDel d r) f = record { kind = changeKind d; field = Del; row = r; is = refl; named = linked-row s (changeKind d) r f; linked = f }
+settled-field s (purpose.LookIns l r) f = record { kind = lookKind l; field = Ins; row = r; is = refl; named = linked-row s (lookKind l) r (f .1 .linked); linked = f .1 .linked }
+settled-field s (purpose.LookDel l r) f = record { kind = lookKind l; field = Del; row = r; is = refl; named = linked-row s (lookKind l) r (f .1 .linked); linked = f .1 .linked }
+settled-field s (purpose.Own g d r) f = record { kind = changeKind d; field = g; row = r; is = refl; named = linked-row s (changeKind d) r (f .1); linked = f .1 }
+settled-field s (purpose.LostDel d r) f = record { kind = changeKind d; field = Del; row = r; is = refl; named = linked-row s (changeKind d) r (f .1 .linked); linked = f .1 .linked }
 settled-field s (purpose.WonIns i r) f = record { kind = Vertex; field = Ins; row = r; is = refl; named = linked-row s Vertex r f; linked = f }
-settled-field s (purpose.BindAgain o p x d) f = record { kind = Vertex; field = Del; row = x; is = refl; named = linked-row s Vertex x f; linked = f }
-settled-field s (purpose.AgainSource o p x d g) f = record { kind = Vertex; field = Del; row = x; is = refl; named = linked-row s Vertex x f; linked = f }
-settled-field s (purpose.AgainTarget o p x d g) f = record { kind = Vertex; field = Del; row = d; is = refl; named = linked-row s Vertex d f; linked = f }
-settled-field s (purpose.CompareSource p x d g e n) f = record { kind = Vertex; field = Del; row = x; is = refl; named = linked-row s Vertex x f; linked = f }
-settled-field s (purpose.CompareTarget p x d g e n) f = record { kind = Vertex; field = Del; row = d; is = refl; named = linked-row s Vertex d f; linked = f }
-settled-field s (purpose.WalkIns k r) f = record { kind = jobKind (k .job); field = Ins; row = r; is = refl; named = linked-row s (jobKind (k .job)) r (f .0); linked = f .0 }
-settled-field s (purpose.WalkDel k r) f = record { kind = jobKind (k .job); field = Del; row = r; is = refl; named = linked-row s (jobKind (k .job)) r (f .0); linked = f .0 }
+settled-field s (purpose.BindAgain o p x d) f = record { kind = Vertex; field = Del; row = x; is = refl; named = linked-row s Vertex x (f .source); linked = f .source }
+settled-field s (purpose.AgainSource o p x d g) f = record { kind = Vertex; field = Del; row = x; is = refl; named = linked-row s Vertex x (f .0 .source); linked = f .0 .source }
+settled-field s (purpose.AgainTarget o p x d g) f = record { kind = Vertex; field = Del; row = d; is = refl; named = linked-row s Vertex d (f .0 .target); linked = f .0 .target }
+settled-field s (purpose.CompareSource p x d g e n) f = record { kind = Vertex; field = Del; row = x; is = refl; named = linked-row s Vertex x (f .source); linked = f .source }
+settled-field s (purpose.CompareTarget p x d g e n) f = record { kind = Vertex; field = Del; row = d; is = refl; named = linked-row s Vertex d (f .target); linked = f .target }
+settled-field s (purpose.WalkIns k r) f = record { kind = jobKind (k .job); field = Ins; row = r; is = refl; named = linked-row s (jobKind (k .job)) r (f .1); linked = f .1 }
+settled-field s (purpose.WalkDel k r) f = record { kind = jobKind (k .job); field = Del; row = r; is = refl; named = linked-row s (jobKind (k .job)) r (f .1); linked = f .1 }
 
 -- filling a row changes cells of that row only
 bound-at : (z : Sizes) (P : ℕ → Type 0) (cs : List ℕ) (d : Change) (r : ℕ) (c : Cell) → Named z c → IsRow z (changeKind d) r → Enough z cs → (OfRow (changeKind d) r c → (y : ℕ) → P y) → P (cellAt z cs c) → P (cellAt z (bound z cs d r) c)
@@ -71,11 +71,11 @@ bound-at z P cs (change.Edge p x y) r c m n l row there =
     (put-at z P one (cell.Target r) c y m n l₁ (λ e. row (subst (OfRow Edge r) (sym e) (refl, refl)) _)
     (put-at z P cs (cell.Source r) c x m n l (λ e. row (subst (OfRow Edge r) (sym e) (refl, refl)) _) there))
 
-enough-bound : (z : Sizes) (cs : List ℕ) (d : Change) (r : ℕ) → Enough z cs → Enough z (bound z cs d r)
+pub enough-bound : (z : Sizes) (cs : List ℕ) (d : Change) (r : ℕ) → Enough z cs → Enough z (bound z cs d r)
 enough-bound z cs (change.Vertex i) r l = l
 enough-bound z cs (change.Edge p x y) r l = enough-set z _ _ _ (enough-set z _ _ _ (enough-set z cs _ x l))
 
-fill-at : (z : Sizes) (P : ℕ → Type 0) (cs : List ℕ) (d : Change) (h r : ℕ) (c : Cell) → Named z c → IsRow z (changeKind d) r → Enough z cs → (OfRow (changeKind d) r c → (y : ℕ) → P y) → P (cellAt z cs c) → P (cellAt z (filled z cs d h r) c)
+pub fill-at : (z : Sizes) (P : ℕ → Type 0) (cs : List ℕ) (d : Change) (h r : ℕ) (c : Cell) → Named z c → IsRow z (changeKind d) r → Enough z cs → (OfRow (changeKind d) r c → (y : ℕ) → P y) → P (cellAt z cs c) → P (cellAt z (filled z cs d h r) c)
 fill-at z P cs d h r c m n l row there =
     let k : Kind = changeKind d in
     let one : List ℕ = put z cs (cell.Older k r) h in
@@ -87,12 +87,12 @@ fill-at z P cs d h r c m n l row there =
     (put-at z P one (cell.Stamp k Ins r) c pending m n l₁ (λ e. row (subst (OfRow k r) (sym e) (refl, refl)) _)
     (put-at z P cs (cell.Older k r) c h m n l (λ e. row (subst (OfRow k r) (sym e) (refl, refl)) _) there)))
 
-enough-filled : (z : Sizes) (cs : List ℕ) (d : Change) (h r : ℕ) → Enough z cs → Enough z (filled z cs d h r)
+pub enough-filled : (z : Sizes) (cs : List ℕ) (d : Change) (h r : ℕ) → Enough z cs → Enough z (filled z cs d h r)
 enough-filled z cs d h r l = enough-bound z _ d r (enough-set z _ _ 0 (enough-set z _ _ pending (enough-set z cs _ h l)))
 
-head-named : (s : State) (d : Change) → FitChange s d → Named (s .sizes) (cell.Head (changeHead d))
+pub head-named : (s : State) (d : Change) → FitChange s d → Named (s .sizes) (cell.Head (changeHead d))
 head-named s (change.Vertex i) f = f
-head-named s (change.Edge p x y) f = f
+head-named s (change.Edge p x y) f = f .keys
 
 pos-next : (n : ℕ) → eqb n 0 ≡ false → 0 < n
 pos-next n e = let h : n ≡ 0 → ⊥ = eqb-false n 0 e in omega (arith, h)
@@ -132,9 +132,9 @@ touched-at s w c (place.Settle (stage.Swap n) p) e m l f =
     let q = settled-field s p f in
     swap-at (s .sizes) (λ y. Changes s w c (numberIn s c) y) (s .cells) (settledField p) c pending n m (q .named) l
     (λ i v. stamps p e i (ap (numberIn s) i ∙ v)) (keeps refl)
-touched-at s w c (place.Link d h) e m l f = link-at s w c d h e m l f (eqb (nextOwn s w (changeKind d)) 0) refl
+touched-at s w c (place.Link d h) e m l f = link-at s w c d h e m l (f .0) (eqb (nextOwn s w (changeKind d)) 0) refl
 touched-at s w c (place.End d r) e m l f =
-    swap-at (s .sizes) (λ y. Changes s w c (numberIn s c) y) (s .cells) (cell.Stamp (changeKind d) Del r) c 0 pending m (linked-row s (changeKind d) r f) l
+    swap-at (s .sizes) (λ y. Changes s w c (numberIn s c) y) (s .cells) (cell.Stamp (changeKind d) Del r) c 0 pending m (linked-row s (changeKind d) r (f .1 .linked)) l
     (λ i v. ends d r e i (ap (numberIn s) i ∙ v) refl) (keeps refl)
 touched-at s w c (place.LostHead i) e m l f = keeps refl
 touched-at s w c (place.Raise v) e m l f =

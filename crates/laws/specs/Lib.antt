@@ -1,3 +1,4 @@
 pub mod Fits
 pub mod Changes
 pub mod Laws
+pub mod Sound

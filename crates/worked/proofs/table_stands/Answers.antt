@@ -1,4 +1,5 @@
 use mathlib.Core.Path.{refl}
+use Rattle.questions.proofs.Worked.{cases}
 use Rattle.worked.proofs.table_stands.Needs as need
 
 pub returns : need.returns
@@ -15,4 +16,6 @@ returns c = record {
   weight-zero = refl;
   clock-spent = refl;
   rows-spent = refl;
+  total = cases .total;
+  weakest = cases .weakest;
 }
