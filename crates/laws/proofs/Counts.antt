@@ -1,9 +1,8 @@
 -- How a turn counts the rows that its worker has linked.
 use mathlib.Core.Bool.{Bool, true, false, cond}
-use mathlib.Core.Path.{_≡_, refl, sym, ap, subst, _∙_}
-use Prim.Native.Nat.{ℕ, _<_}
+use mathlib.Core.Path.{_≡_, refl, _∙_}
+use Prim.Native.Nat.{ℕ}
 use lib.Dec.{eqb}
-use Rattle.codes.specs.declared.answer.Answer.{Answer}
 use Rattle.codes.specs.declared.answer.Answer.the-variants.{RowsSpent, ClockSpent}
 use Rattle.layout.specs.declared.names.Kind.{Kind}
 use Rattle.layout.specs.declared.names.Kind.the-variants.{Vertex, Edge}

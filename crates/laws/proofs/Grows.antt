@@ -1,12 +1,8 @@
 -- What a turn leaves linked stays linked, and a head that is not none stays so.
-use mathlib.Core.Bool.{Bool, true, false, cond}
-use mathlib.Core.Logic.{_⊎_, inl, inr, ⊎-elim}
-use mathlib.Core.Path.{_≡_, refl, sym, ap, subst, _∙_}
-use Prim.Native.Nat.{ℕ, _+_, _-_, _^_, _<_, _≤_, min}
+use mathlib.Core.Logic.{inl, inr}
+use mathlib.Core.Path.{_≡_, sym, subst}
+use Prim.Native.Nat.{ℕ, _-_, _<_, _≤_}
 use native.Mathlib.Omega.{arith}
-use lib.ListN.{length, getD, set}
-use Rattle.std.proofs.shelf.Lists.{getD-set-same, getD-set-other}
-use Rattle.std.proofs.shelf.Tests.{cases-eq}
 use Rattle.layout.specs.declared.names.Kind.{Kind}
 use Rattle.layout.specs.declared.names.Kind.the-variants.{Vertex, Edge}
 use Rattle.layout.specs.declared.names.Head.{Head}
@@ -53,7 +49,7 @@ module _ (s t : State) (l : Later s t) where
     is = subst (λ z. rowAt z k (x .owner) (x .place) ≡ Some r) (sym (l .sizes)) (x .is);
   }
 
-  key-later : (i : ℕ) → IsKey s i → IsKey t i
+  pub key-later : (i : ℕ) → IsKey s i → IsKey t i
   key-later i k = subst (λ (z : Sizes). i < z .keys) (sym (l .sizes)) k
 
   pub row-later : (k : Kind) (r : ℕ) → RowOrNone s k r → RowOrNone t k r
@@ -85,7 +81,7 @@ module _ (s t : State) (l : Later s t) where
   look-named (look.Target o p x) f = f .0 .1
   look-named (look.Edge o p x d) f = f .keys
 
-  change-later : (c : Change) → FitChange s c → FitChange t c
+  pub change-later : (c : Change) → FitChange s c → FitChange t c
   change-later (change.Vertex i) f = key-later i f
   change-later (change.Edge p x d) f = bound-later p x d f
 

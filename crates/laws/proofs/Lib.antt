@@ -9,3 +9,6 @@ mod Served
 mod Grows
 mod Counts
 mod LinkTurns
+mod Keeps
+mod Begins
+mod Runs

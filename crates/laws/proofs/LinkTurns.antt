@@ -1,11 +1,11 @@
 -- A link turn: whether the swap says yes, and what the new row holds.
 use mathlib.Core.Bool.{Bool, true, false, cond}
 use mathlib.Core.List.{List}
-use mathlib.Core.Path.{_≡_, refl, sym, ap, subst, _∙_}
-use Prim.Native.Nat.{ℕ, _<_, _≤_}
+use mathlib.Core.Path.{_≡_, refl, sym, ap, _∙_}
+use Prim.Native.Nat.{ℕ, _<_}
 use native.Mathlib.Omega.{arith}
 use lib.Dec.{eqb, ltb}
-use lib.ListN.{length, getD, set}
+use lib.ListN.{length}
 use Rattle.std.proofs.shelf.Lists.{getD-set-same}
 use Rattle.std.proofs.shelf.Tests.{eq-eqb, ne-eqb, lt-ltb, both-ways}
 use Rattle.std.specs.declared.option.Option.the-variants.{Some, None}
@@ -32,13 +32,13 @@ use Rattle.places.specs.Touches.{changeHead, changeKind, touchOf}
 use Rattle.places.specs.Nexts.{nextOf}
 use Rattle.stepper.specs.States.{State}
 use Rattle.stepper.specs.Effects.{put, bound, filled, isYes, linkDone, gotOf, cellsAfter, entered}
-use Rattle.stepper.specs.Turns.{workerAt, cellAt, spareFor, handOf, nextAt, followedAt, turned}
+use Rattle.stepper.specs.Turns.{workerAt, cellAt, spareFor, handOf, nextAt, turned}
 use Rattle.stepper.specs.Workers.{followed}
 use Rattle.laws.specs.Fits.{FitChange}
 use Rattle.laws.specs.Changes.{nextOwn, numberIn}
 use Rattle.laws.proofs.Puts.{Enough, enough-set, put-at, swap-at}
 use Rattle.laws.proofs.Owned.{next-own}
-use Rattle.laws.proofs.Touched.{head-named, enough-bound, enough-filled, fill-at}
+use Rattle.laws.proofs.Touched.{head-named, enough-filled, fill-at}
 
 put-same : (z : Sizes) (cs : List ℕ) (c : Cell) (v : ℕ) → Named z c → Enough z cs → cellAt z (put z cs c v) c ≡ v
 put-same z cs c v n l = getD-set-same cs (indexOf z c) v 0 (omega (arith, index-lt z c n))

@@ -1,7 +1,7 @@
 -- A place that fits leads to places that fit.
 use mathlib.Core.Bool.{Bool, true, false, cond}
-use mathlib.Core.Logic.{_⊎_, inl, inr, ⊎-elim}
-use mathlib.Core.Path.{_≡_, refl, sym, ap, subst, _∙_}
+use mathlib.Core.Logic.{inl, inr}
+use mathlib.Core.Path.{_≡_, refl, subst}
 use Prim.Native.Nat.{ℕ, _<_}
 use native.Mathlib.Omega.{arith}
 use lib.Dec.{eqb, ltb}
@@ -38,8 +38,8 @@ use Rattle.places.specs.declared.place.Out.{Out}
 use Rattle.places.specs.declared.place.Out.the-variants.{Go, Done}
 use Rattle.places.specs.declared.place.Next.{Next}
 use Rattle.places.specs.declared.place.Next.the-variants as next
-use Rattle.places.specs.Marks.{markOf, stampOf, pending}
-use Rattle.places.specs.Touches.{headKind, lookHead, changeHead, changeKind, jobHead, jobKind}
+use Rattle.places.specs.Marks.{markOf, pending}
+use Rattle.places.specs.Touches.{headKind, lookHead, changeHead, jobKind}
 use Rattle.places.specs.Rules.{first, lookFound, checked, boundRow, alive, absent, lookedAt, unlessMarked, unlessMarkedBelow, edgeChanged, owned, lostTo, lostLink, endDone}
 use Rattle.places.specs.Walks.{above, walkedIns}
 use Rattle.places.specs.Nexts.{settleOn, settled, settling, nextOf}

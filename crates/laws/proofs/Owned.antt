@@ -1,9 +1,11 @@
 -- Rows that are linked, and the row that comes next.
 use mathlib.Core.Bool.{Bool, true, false, cond, _&&_}
-use mathlib.Core.Path.{_≡_, refl, ap}
-use Prim.Native.Nat.{ℕ, _+_, _*_, _<_}
+use mathlib.Core.Path.{_≡_, refl, sym, ap}
+use Prim.Native.Nat.{ℕ, _+_, _*_, _<_, _≤_}
 use native.Mathlib.Omega.{arith}
 use lib.Dec.{ltb}
+use Rattle.std.proofs.shelf.Tests.{and-parts, ltb-true}
+use Rattle.layout.specs.declared.names.Kind.the-variants.{Vertex, Edge}
 use Rattle.std.specs.declared.option.Option.{Option}
 use Rattle.std.specs.declared.option.Option.the-variants.{Some, None}
 use Rattle.layout.specs.declared.sizes.Sizes.{Sizes}
@@ -49,3 +51,17 @@ next-unlinked s w k h l =
     let m : l .owner * rowsEach z k ≡ w * rowsEach z k = ap (λ v. v * rowsEach z k) o in
     let b : linkedOf (workerAt s (l .owner)) k ≡ linkedOf (workerAt s w) k = ap (λ v. linkedOf (workerAt s v) k) o in
     omega (arith, l .before)
+
+-- a row that there is has a number below the rows of a worker
+few-rows : (z : Sizes) (k : Kind) → rowsEach z k ≤ 2048
+few-rows z Vertex = omega arith
+few-rows z Edge = omega arith
+
+bound-if : (z : Sizes) (k : Kind) (w n r : ℕ) (b : Bool) → b ≡ (ltb w (z .workers) && ltb n (rowsEach z k)) → cond b (Some (w * rowsEach z k + n + 1)) None ≡ Some r → n < 2048
+bound-if z k w n r true e f =
+    let p = and-parts (ltb w (z .workers)) (ltb n (rowsEach z k)) (sym e) in
+    omega (arith, ltb-true n (rowsEach z k) (p .1), few-rows z k)
+bound-if z k w n r false e f = let q : _≡_ {A = ℕ} 0 1 = cc in absurd (omega arith)
+
+pub row-bound : (z : Sizes) (k : Kind) (w n r : ℕ) → rowAt z k w n ≡ Some r → n < 2048
+row-bound z k w n r e = bound-if z k w n r (ltb w (z .workers) && ltb n (rowsEach z k)) refl e

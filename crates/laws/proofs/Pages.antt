@@ -78,3 +78,10 @@ entered-at z P cs w (entry.Join i j x r) c m l h f page there =
     put-at z P (put z cs (cell.PagePair w i j) x) (cell.PageKey w j) c r m (h, f .1) (enough-set z cs _ x l)
     (λ e. page (subst (OnPage w) (sym e) refl) r)
     (put-at z P cs (cell.PagePair w i j) c x m (h, f .0, f .1) l (λ e. page (subst (OnPage w) (sym e) refl) x) there)
+
+pub enough-entered : (z : Sizes) (cs : List ℕ) (w : ℕ) (e : Entry) → Enough z cs → Enough z (entered z w cs e)
+enough-entered z cs w entry.Nothing l = l
+enough-entered z cs w entry.Clear l = enough-zeroed z cs (pageStart z w) (pageSize z) l
+enough-entered z cs w (entry.Key k r) l = enough-set z cs _ r l
+enough-entered z cs w (entry.Pair i j x) l = enough-set z cs _ x l
+enough-entered z cs w (entry.Join i j x r) l = enough-set z _ _ r (enough-set z cs _ x l)

@@ -1,10 +1,9 @@
 -- A book whose queue holds keys serves keys.
 use mathlib.Core.Bool.{Bool, true, false, cond, _||_, not}
-use mathlib.Core.List.{List, [], _∷_}
+use mathlib.Core.List.{List}
 use mathlib.Core.Logic.{⊎-elim}
 use mathlib.Core.Path.{_≡_, refl, sym, ap, subst, _∙_}
-use Prim.Native.Nat.{ℕ, zero, suc, _+_, _*_, _-_, _/_, _%_, _<_, _≤_}
-use native.Mathlib.Omega.{arith}
+use Prim.Native.Nat.{ℕ, zero, suc, _+_, _*_, _-_, _/_, _<_, _≤_}
 use lib.Dec.{eqb, ltb}
 use lib.ListN.{length, getD, set, replicate}
 use Rattle.std.proofs.shelf.Bits.{mod-below}
@@ -14,12 +13,11 @@ use Rattle.std.specs.declared.option.Option.{Option}
 use Rattle.std.specs.declared.option.Option.the-variants.{Some, None}
 use Rattle.codes.specs.declared.answer.Answer.the-variants.{VertexAbsent}
 use Rattle.places.specs.declared.place.Survey.{Survey}
-use Rattle.places.specs.declared.place.Survey.the-variants.{Snapshot, Reach}
+use Rattle.places.specs.declared.place.Survey.the-variants.{Snapshot}
 use Rattle.places.specs.declared.place.Job.{Job}
 use Rattle.places.specs.declared.place.Job.the-variants as job
 use Rattle.places.specs.declared.place.Hand.{Hand}
-use Rattle.places.specs.declared.place.Out.{Out}
-use Rattle.places.specs.declared.place.Out.the-variants.{Go, Done}
+use Rattle.places.specs.declared.place.Out.the-variants.{Done}
 use Rattle.books.specs.declared.book.Book.{Book}
 use Rattle.books.specs.declared.walked.Entry.the-variants as entry
 use Rattle.books.specs.Books.{blank, withRow, joined}

@@ -86,7 +86,7 @@ NoStamp (cell.PagePair v i j) = Unit {0}
 
 module _ (s : State) (w : ℕ) (f : Fit s w) where
   -- what a worker settles or ends is a field of a linked row
-  settled-of : (p : Purpose) (y : ℕ) → workerAt s w .place ≡ place.Settle (Swap y) p → Settled s p
+  pub settled-of : (p : Purpose) (y : ℕ) → workerAt s w .place ≡ place.Settle (Swap y) p → Settled s p
   settled-of p y e = settled-field s p (subst (FitPlace s) e (f .place))
 
   ended-of : (d : Change) (r : ℕ) → workerAt s w .place ≡ place.End d r → Linked s (changeKind d) r
