@@ -1,9 +1,10 @@
 -- What a turn of a place that fits enters into the page has keys of the opening.
 use mathlib.Core.Bool.{Bool, true, false, cond, _||_, not}
+use mathlib.Core.Path.{subst}
 use Prim.Native.Nat.{ℕ, _+_, _<_}
 use lib.Dec.{eqb}
 use lib.ListN.{getD}
-use Rattle.codes.specs.declared.answer.Answer.the-variants.{VertexAbsent, RowsSpent, ClockSpent}
+use Rattle.codes.specs.declared.answer.Answer.the-variants.{VertexAbsent}
 use Rattle.layout.specs.declared.sizes.Sizes.{Sizes}
 use Rattle.places.specs.declared.place.Survey.{Survey}
 use Rattle.places.specs.declared.place.Job.{Job}
@@ -11,19 +12,15 @@ use Rattle.places.specs.declared.place.Job.the-variants as job
 use Rattle.places.specs.declared.place.Walk.{Walk}
 use Rattle.places.specs.declared.place.Hand.{Hand}
 use Rattle.places.specs.declared.place.Got.{Got}
-use Rattle.places.specs.declared.place.Stage.{Stage}
 use Rattle.places.specs.declared.place.Stage.the-variants as stage
 use Rattle.places.specs.declared.place.Purpose.{Purpose}
 use Rattle.places.specs.declared.place.Purpose.the-variants as purpose
 use Rattle.places.specs.declared.place.Place.{Place}
 use Rattle.places.specs.declared.place.Place.the-variants as place
-use Rattle.places.specs.declared.place.Out.the-variants.{Go, Done}
+use Rattle.places.specs.declared.place.Out.the-variants.{Done}
 use Rattle.places.specs.declared.place.Next.{Next}
 use Rattle.places.specs.declared.place.Next.the-variants as next
-use Rattle.places.specs.Marks.{markOf, pending}
-use Rattle.places.specs.Rules.{first, absent, lostLink}
-use Rattle.places.specs.Walks.{above, walkedIns}
-use Rattle.places.specs.Nexts.{settleOn, settled, settling, nextOf}
+use Rattle.places.specs.Nexts.{nextOf}
 use Rattle.books.specs.declared.book.Book.{Book}
 use Rattle.books.specs.declared.walked.Entry.the-variants as entry
 use Rattle.books.specs.Books.{withRow, joined}
@@ -33,57 +30,34 @@ use Rattle.stepper.specs.declared.worker.Worker.{Worker}
 use Rattle.stepper.specs.States.{State}
 use Rattle.stepper.specs.Workers.{followed}
 use Rattle.laws.specs.Fits.{FitJob, FitPurpose, FitPlace}
+use Rattle.laws.proofs.Follows.{InWalk, AtWalk, Follows, follows}
 use Rattle.laws.proofs.Pages.{FitEntry}
 
--- a walk that ends is one whose keys are keys
-abbrev FitNext : State → Next → Type 0
-FitNext s (next.Out o) = Unit {0}
-FitNext s (next.Linked c r) = Unit {0}
-FitNext s (next.Raised v t) = Unit {0}
-FitNext s (next.Walked k r) = FitJob s (k .job)
+-- the keys of a walk are keys
+purpose-job : (s : State) (p : Purpose) (k : Walk) → FitPurpose s p → InWalk p k → FitJob s (k .job)
+purpose-job s (purpose.LookIns l r) k f a = absurd a
+purpose-job s (purpose.LookDel l r) k f a = absurd a
+purpose-job s (purpose.Own g c r) k f a = absurd a
+purpose-job s (purpose.LostDel c r) k f a = absurd a
+purpose-job s (purpose.WonIns i r) k f a = absurd a
+purpose-job s (purpose.BindAgain o p x d) k f a = absurd a
+purpose-job s (purpose.AgainSource o p x d g) k f a = absurd a
+purpose-job s (purpose.AgainTarget o p x d g) k f a = absurd a
+purpose-job s (purpose.CompareSource p x d g e n) k f a = absurd a
+purpose-job s (purpose.CompareTarget p x d g e n) k f a = absurd a
+purpose-job s (purpose.WalkIns j r) k f a = subst (λ u. FitJob s (u .job)) a (f .0)
+purpose-job s (purpose.WalkDel j r) k f a = subst (λ u. FitJob s (u .job)) a (f .0)
 
-cond-fits : (s : State) (b : Bool) (x y : Next) → FitNext s x → FitNext s y → FitNext s (cond b x y)
-cond-fits s true x y f g = f
-cond-fits s false x y f g = g
-
-walkedIns-fits : (s : State) (k : Walk) (r : ℕ) (h : Hand) (n : ℕ) → FitJob s (k .job) → FitNext s (walkedIns k r h n)
-walkedIns-fits s k r h n f =
-    let on : Next = next.Out (Go (place.WalkOlder k (h .older))) in
-    cond-fits s (above (h .t) (markOf n)) (cond (eqb (h .older) 0) (next.Walked k 0) on) (next.Out (first (purpose.WalkDel k r)))
-    (cond-fits s (eqb (h .older) 0) (next.Walked k 0) on f tt) tt
-
-settled-fits : (s : State) (p : Purpose) (h : Hand) (n : ℕ) → FitPurpose s p → FitNext s (settled p h n)
-settled-fits s (purpose.LookIns l r) h n f = tt
-settled-fits s (purpose.LookDel l r) h n f = tt
-settled-fits s (purpose.Own g c r) h n f = tt
-settled-fits s (purpose.LostDel c r) h n f = tt
-settled-fits s (purpose.WonIns i r) h n f = tt
-settled-fits s (purpose.BindAgain o p x d) h n f = tt
-settled-fits s (purpose.AgainSource o p x d g) h n f = tt
-settled-fits s (purpose.AgainTarget o p x d g) h n f = tt
-settled-fits s (purpose.CompareSource p x d g e m) h n f = tt
-settled-fits s (purpose.CompareTarget p x d g e m) h n f = tt
-settled-fits s (purpose.WalkIns k r) h n f = walkedIns-fits s k r h n (f .0)
-settled-fits s (purpose.WalkDel k r) h n f = f .0
-
-settling-fits : (s : State) (st : Stage) (p : Purpose) (h : Hand) (n : ℕ) → FitPurpose s p → FitNext s (settling st p h n)
-settling-fits s stage.First p h n f = cond-fits s (eqb n pending) (settleOn stage.Clock p) (settled p h n) tt (settled-fits s p h n f)
-settling-fits s stage.Clock p h n f = tt
-settling-fits s (stage.Swap m) p h n f = tt
-settling-fits s stage.Again p h n f = settled-fits s p h n f
-
-nextOf-fits : (s : State) (p : Place) (h : Hand) (g : Got) → FitPlace s p → FitNext s (nextOf p h g)
-nextOf-fits s place.Idle h g f = tt
-nextOf-fits s (place.Head l) h g f = cond-fits s (eqb (g .number) 0) (next.Out (absent l 0)) (next.Out (first (purpose.LookIns l (g .number)))) tt tt
-nextOf-fits s (place.Settle st p) h g f = settling-fits s st p h (g .number) f
-nextOf-fits s (place.Link c r) h g f =
-    cond-fits s (eqb (h .spare) 0) (next.Out (Done RowsSpent)) (cond (g .done) (next.Linked c (h .spare)) (next.Out (lostLink c))) tt
-    (cond-fits s (g .done) (next.Linked c (h .spare)) (next.Out (lostLink c)) tt tt)
-nextOf-fits s (place.End c r) h g f = tt
-nextOf-fits s (place.LostHead i) h g f = tt
-nextOf-fits s (place.Raise v) h g f = cond-fits s (g .done) (next.Raised v (g .number)) (next.Out (Done ClockSpent)) tt tt
-nextOf-fits s (place.WalkHead k) h g f = cond-fits s (eqb (g .number) 0) (next.Walked k 0) (next.Out (first (purpose.WalkIns k (g .number)))) f tt
-nextOf-fits s (place.WalkOlder k r) h g f = walkedIns-fits s k r h (g .number) (f .0)
+place-job : (s : State) (p : Place) (k : Walk) → FitPlace s p → AtWalk p k → FitJob s (k .job)
+place-job s place.Idle k f a = absurd a
+place-job s (place.Head l) k f a = absurd a
+place-job s (place.Settle st p) k f a = purpose-job s p k f a
+place-job s (place.Link c h) k f a = absurd a
+place-job s (place.End c r) k f a = absurd a
+place-job s (place.LostHead i) k f a = absurd a
+place-job s (place.Raise v) k f a = absurd a
+place-job s (place.WalkHead j) k f a = subst (λ u. FitJob s (u .job)) a f
+place-job s (place.WalkOlder j r) k f a = subst (λ u. FitJob s (u .job)) a (f .0)
 
 cond-entry : (z : Sizes) (b : Bool) (x y : Outcome) → FitEntry z (x .entry) → FitEntry z (y .entry) → FitEntry z (cond b x y .entry)
 cond-entry z true x y f g = f
@@ -109,11 +83,11 @@ walkedAt-entry s b v (job.Pair x i j) n r h f =
     (cond-entry (s .sizes) (getD (b .seen) j false) (resolved b v n x i j h) walk (resolved-entry (s .sizes) b v n x i j h (f .0) (f .1)) tt)
 walkedAt-entry s b v (job.Target x i j e) n r h f = resolved-entry (s .sizes) (withRow b j r) v n x i j h (f .0) (f .1)
 
-followed-entry : (s : State) (n : ℕ) (v : Worker) (h : Hand) (x : Next) → FitNext s x → FitEntry (s .sizes) (followed n v h x .entry)
-followed-entry s n v h (next.Out o) f = tt
-followed-entry s n v h (next.Linked c r) f = tt
-followed-entry s n v h (next.Raised u t) f = tt
-followed-entry s n v h (next.Walked k r) f = walkedAt-entry s (v .book) (k .survey) (k .job) n r h f
+followed-entry : (s : State) (n : ℕ) (v : Worker) (h : Hand) (g : Got) (x : Next) → FitPlace s (v .place) → Follows (v .place) h g x → FitEntry (s .sizes) (followed n v h x .entry)
+followed-entry s n v h g (next.Out o) f a = tt
+followed-entry s n v h g (next.Linked c r) f a = tt
+followed-entry s n v h g (next.Raised u t) f a = tt
+followed-entry s n v h g (next.Walked k r) f a = walkedAt-entry s (v .book) (k .survey) (k .job) n r h (place-job s (v .place) k f a)
 
 pub entry-fits : (s : State) (n : ℕ) (v : Worker) (h : Hand) (g : Got) → FitPlace s (v .place) → FitEntry (s .sizes) (followed n v h (nextOf (v .place) h g) .entry)
-entry-fits s n v h g f = followed-entry s n v h (nextOf (v .place) h g) (nextOf-fits s (v .place) h g f)
+entry-fits s n v h g f = followed-entry s n v h g (nextOf (v .place) h g) f (follows (v .place) h g)

@@ -52,7 +52,8 @@ use Rattle.laws.proofs.Pages.{enough-entered}
 use Rattle.laws.proofs.Touched.{enough-after}
 use Rattle.laws.proofs.Stays.{turn-changes, turn-laws, settled-of}
 use Rattle.laws.proofs.Outs.{FitOut, FitsNext, HandAt, GotAt, nextOf-fit}
-use Rattle.laws.proofs.Counts.{LinkTurn, LinksAs, next-links, sameKind, countAfter, followed-count}
+use Rattle.laws.proofs.Counts.{sameKind, countAfter, followed-count}
+use Rattle.laws.proofs.Follows.{LinkTurn, Follows, follows}
 use Rattle.laws.proofs.LinkTurns.{lost-differs, won-links, new-older}
 use Rattle.laws.proofs.Grows.{Later, linked-later, row-later, change-later, place-later}
 use Rattle.laws.proofs.Served.{QueueFits, blank-queue, walkedAt-good}
@@ -74,8 +75,8 @@ module _ (s : State) (w : ℕ) (z : Sound s) (b : w < s .sizes .workers) where
   other-record v n = getD-set-other (s .workers) w v (followedAt s w .worker) nobody n
 
   -- what follows in this turn
-  links-now : LinksAs (workerAt s w .place) (handAt s w) (gotOf (s .sizes) (s .cells) (touchAt s w)) (nextAt s w)
-  links-now = next-links (workerAt s w .place) (handAt s w) (gotOf (s .sizes) (s .cells) (touchAt s w))
+  links-now : Follows (workerAt s w .place) (handAt s w) (gotOf (s .sizes) (s .cells) (touchAt s w)) (nextAt s w)
+  links-now = follows (workerAt s w .place) (handAt s w) (gotOf (s .sizes) (s .cells) (touchAt s w))
 
   own-count : (k : Kind) → linkedOf (workerAt t w) k ≡ countAfter (nextAt s w) k (linkedOf (workerAt s w) k)
   own-count k = ap (λ v. linkedOf v k) own-record ∙ followed-count (s .sizes .keys) (workerAt s w) (handAt s w) (nextAt s w) k
@@ -95,7 +96,7 @@ module _ (s : State) (w : ℕ) (z : Sound s) (b : w < s .sizes .workers) where
 
   count-grows : (k : Kind) (x : Next) → x ≡ nextAt s w → linkedOf (workerAt s w) k ≤ countAfter x k (linkedOf (workerAt s w) k)
   count-grows k (next.Out o) e = omega arith
-  count-grows k (next.Linked c r) e = grows (changeKind c) k (linkedOf (workerAt s w) k) (λ q. small c r (subst (LinksAs (workerAt s w .place) (handAt s w) (gotOf (s .sizes) (s .cells) (touchAt s w))) (sym e) links-now) k q)
+  count-grows k (next.Linked c r) e = grows (changeKind c) k (linkedOf (workerAt s w) k) (λ q. small c r (subst (Follows (workerAt s w .place) (handAt s w) (gotOf (s .sizes) (s .cells) (touchAt s w))) (sym e) links-now) k q)
     where
       small : (c : Change) (r : ℕ) → LinkTurn (workerAt s w .place) (handAt s w) (gotOf (s .sizes) (s .cells) (touchAt s w)) c r → (k : Kind) → changeKind c ≡ k → linkedOf (workerAt s w) k < 2048
       small c r l k q = subst (λ (x : Kind). linkedOf (workerAt s w) x < 2048) q (row-bound (s .sizes) (changeKind c) w (linkedOf (workerAt s w) (changeKind c)) _ (next-is s w (changeKind c) (spare-pos c r l)))
@@ -229,7 +230,7 @@ module _ (s : State) (w : ℕ) (z : Sound s) (b : w < s .sizes .workers) where
 
   linked-now : (c : Change) (r : ℕ) → nextAt s w ≡ next.Linked c r → Linked t (changeKind c) r
   linked-now c r e =
-      let l : LinkTurn (workerAt s w .place) (handAt s w) (gotOf (s .sizes) (s .cells) (touchAt s w)) c r = subst (LinksAs (workerAt s w .place) (handAt s w) (gotOf (s .sizes) (s .cells) (touchAt s w))) e links-now in
+      let l : LinkTurn (workerAt s w .place) (handAt s w) (gotOf (s .sizes) (s .cells) (touchAt s w)) c r = subst (Follows (workerAt s w .place) (handAt s w) (gotOf (s .sizes) (s .cells) (touchAt s w))) e links-now in
       let p = spare-pos c r l in
       subst (Linked t (changeKind c)) (sym (l .row ∙ spare-is c (l .over) (l .place))) (new-linked c r e p)
 
@@ -322,7 +323,7 @@ module _ (s : State) (w : ℕ) (z : Sound s) (b : w < s .sizes .workers) where
   new-sound : (k : Kind) (r : ℕ) → New k r → RowOrNone t k (numberIn t (cell.Older k r))
   new-sound k r m =
       let c : Change = m .change in
-      let l : LinkTurn (workerAt s w .place) (handAt s w) (gotOf (s .sizes) (s .cells) (touchAt s w)) (m .change) (m .row) = subst (LinksAs (workerAt s w .place) (handAt s w) (gotOf (s .sizes) (s .cells) (touchAt s w))) (m .follows) links-now in
+      let l : LinkTurn (workerAt s w .place) (handAt s w) (gotOf (s .sizes) (s .cells) (touchAt s w)) (m .change) (m .row) = subst (Follows (workerAt s w .place) (handAt s w) (gotOf (s .sizes) (s .cells) (touchAt s w))) (m .follows) links-now in
       let p : 0 < nextOwn s w (changeKind (m .change)) = spare-pos (m .change) (m .row) l in
       let row : m .row ≡ nextOwn s w (changeKind (m .change)) = l .row ∙ spare-is (m .change) (l .over) (l .place) in
       let f : FitPlace s (place.Link (m .change) (l .over)) = subst (FitPlace s) (l .place) (z .places w b) in

@@ -1,5 +1,6 @@
 mod Puts
 mod Pages
+mod Follows
 mod Entries
 mod Owned
 mod Touched
