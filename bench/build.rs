@@ -1,0 +1,18 @@
+//! Links the proved stepper where the feature `proved` asks for it.
+
+use std::{env, path::Path};
+
+fn main() {
+    println!("cargo:rerun-if-changed=build.rs");
+    if env::var_os("CARGO_FEATURE_PROVED").is_none() {
+        return;
+    }
+    let folder = Path::new(env!("CARGO_MANIFEST_DIR")).join("../target/staticlib");
+    let archive = folder.join("libreplay.a");
+    println!("cargo:rerun-if-changed={}", archive.display());
+    if !archive.exists() {
+        println!("cargo:warning=no {}: run bench/run.sh, or rt staticlib replay", archive.display());
+    }
+    println!("cargo:rustc-link-search=native={}", folder.display());
+    println!("cargo:rustc-link-lib=static=replay");
+}

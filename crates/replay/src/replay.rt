@@ -1,0 +1,52 @@
+// Replies to the lines of a text.
+ghost use Prim.Native.Nat.{_≤_};
+ghost use lib.ListN.{length};
+use crate::feed::split;
+use crate::put::put;
+use cells::CellMemory;
+use session::answer::answer;
+use session::answer::answer_open;
+use session::desk::Desk;
+use stepper::run::Run;
+
+// Goes on behind the first `n` bytes of the area while a run is open.
+fn replay_open<M: CellMemory>(run: &mut Run<M>, text: &[u8], out: &mut [u8], n: usize) -> usize
+    requires { ⌜ n ≤ length (now out) ⌝ }
+    ensures { λ r. ⌜ r ≤ length (now (out .exit)) ⌝ }
+{
+    let mut rest = text;
+    let mut n = n;
+    while !rest.is_empty() {
+        let (line, behind) = split(rest);
+        let Some(end) = put(out, n, answer_open(run, line)) else {
+            return n;
+        };
+        n = end;
+        rest = behind;
+    }
+    n
+}
+
+// Writes a reply line for each line of the text, and says how many bytes were written. A reply that does not fit whole is
+// not written and ends the replay.
+pub fn replay<M: CellMemory + Drop>(memory: M, text: &[u8], out: &mut [u8]) -> usize
+    ensures { λ r. ⌜ r ≤ length (now (out .exit)) ⌝ }
+{
+    let mut desk = Desk::Closed(memory);
+    let mut rest = text;
+    let mut n = 0;
+    while !rest.is_empty() {
+        if let Desk::Open(mut run) = desk {
+            return replay_open(&mut run, rest, out, n);
+        }
+        let (line, behind) = split(rest);
+        let answered = answer(desk, line);
+        desk = answered.desk;
+        let Some(end) = put(out, n, answered.reply) else {
+            return n;
+        };
+        n = end;
+        rest = behind;
+    }
+    n
+}
