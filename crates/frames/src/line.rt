@@ -1,7 +1,7 @@
 // The digits of a reply's line.
 ghost use mathlib.Core.Path.{_≡_};
 ghost use mathlib.Core.List.{[], _∷_};
-ghost use lib.ListN.{take};
+ghost use lib.ListN.{length, take};
 ghost use Prim.Native.Nat.{_≤_};
 ghost use Rattle.frames.specs.Hex.{hexOf};
 ghost use Rattle.frames.specs.Replies.{replyLine};
@@ -20,6 +20,7 @@ pub struct Line {
 fn two(a: u8, b: u8) -> Line
     ensures whole { λ r. ⌜ take (r .len) (r .digits) ≡ hexOf (a ∷ (b ∷ [])) ⌝ }
     ensures short { λ r. ⌜ r .len ≤ 6 ⌝ }
+    ensures sized { λ r. ⌜ length (r .digits) ≡ 6 ⌝ }
 {
     let [a1, a0] = digits(a);
     let [b1, b0] = digits(b);
@@ -33,6 +34,7 @@ fn two(a: u8, b: u8) -> Line
 fn three(a: u8, b: u8, c: u8) -> Line
     ensures whole { λ r. ⌜ take (r .len) (r .digits) ≡ hexOf (a ∷ (b ∷ (c ∷ []))) ⌝ }
     ensures short { λ r. ⌜ r .len ≤ 6 ⌝ }
+    ensures sized { λ r. ⌜ length (r .digits) ≡ 6 ⌝ }
 {
     let [a1, a0] = digits(a);
     let [b1, b0] = digits(b);
@@ -48,6 +50,7 @@ impl Reply {
     pub fn line(self) -> Line
         ensures whole { λ r. ⌜ take (r .len) (r .digits) ≡ replyLine self ⌝ }
         ensures short { λ r. ⌜ r .len ≤ 6 ⌝ }
+        ensures sized { λ r. ⌜ length (r .digits) ≡ 6 ⌝ }
     {
         match self {
             Reply::ToOpen(code) => two(0x81, code.byte()),

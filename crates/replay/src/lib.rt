@@ -2,8 +2,8 @@
 mod exports;
 mod feed;
 mod put;
-mod replay;
+mod schedule;
 
 pub use exports::zibdalk_image;
 pub use exports::zibdalk_words;
-pub use replay::replay;
+pub use schedule::replay;
