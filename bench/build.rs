@@ -8,11 +8,13 @@ fn main() {
         return;
     }
     let folder = Path::new(env!("CARGO_MANIFEST_DIR")).join("../target/staticlib");
-    let archive = folder.join("libreplay.a");
-    println!("cargo:rerun-if-changed={}", archive.display());
-    if !archive.exists() {
-        println!("cargo:warning=no {}: run bench/run.sh, or rt staticlib replay", archive.display());
-    }
     println!("cargo:rustc-link-search=native={}", folder.display());
-    println!("cargo:rustc-link-lib=static=replay");
+    for name in ["replay_words", "replay_image"] {
+        let archive = folder.join(format!("lib{name}.a"));
+        println!("cargo:rerun-if-changed={}", archive.display());
+        if !archive.exists() {
+            println!("cargo:warning=no {}: run bench/run.sh", archive.display());
+        }
+        println!("cargo:rustc-link-lib=static={name}");
+    }
 }

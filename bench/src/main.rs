@@ -124,9 +124,9 @@ fn measure(schedule: &Schedule) -> [f64; 2] {
     let turns = bench.checked();
     let mut best = [f64::INFINITY; 3];
     for _ in 0..ROUNDS {
-        best[0] = best[0].min(seconds(|| drop(black_box(bench.plain().len()))));
-        best[1] = best[1].min(seconds(|| drop(black_box(bench.words().len()))));
-        best[2] = best[2].min(seconds(|| drop(black_box(bench.image().len()))));
+        best[0] = best[0].min(seconds(|| { black_box(bench.plain().len()); }));
+        best[1] = best[1].min(seconds(|| { black_box(bench.words().len()); }));
+        best[2] = best[2].min(seconds(|| { black_box(bench.image().len()); }));
     }
     let millions = best.map(|seconds| turns as f64 / seconds / 1e6);
     let ratios = [best[0] / best[1], best[0] / best[2]];

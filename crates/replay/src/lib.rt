@@ -1,9 +1,6 @@
-// A whole schedule in one call, for C and Rust to link.
-mod exports;
+// A whole schedule in one call, over any cell memory, into an area of bytes.
 mod feed;
 mod put;
 mod schedule;
 
-pub use exports::zibdalk_image;
-pub use exports::zibdalk_words;
 pub use schedule::replay;
