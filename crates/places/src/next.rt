@@ -1,6 +1,6 @@
 // What follows from a place and what its turn gave.
 ghost use mathlib.Core.Path.{_≡_};
-ghost use Rattle.places.specs.Nexts.{settled, linkDone, raiseDone, nextOf};
+ghost use Rattle.places.specs.Nexts.{settled, settling, linkDone, raiseDone, nextOf};
 ghost use Rattle.places.specs.Rules.{edgeChanged, endDone, lostLink};
 use crate::lookup::settle;
 use crate::lookup::unless_below;
@@ -101,36 +101,36 @@ impl Purpose {
             )),
         }
     }
+
+    // After a turn that settles a field.
+    fn settling(self, stage: Stage, hand: Hand, number: u32) -> Next
+        ensures { λ r. ⌜ r ≡ settling stage self hand number ⌝ }
+    {
+        match stage {
+            Stage::First if number == PENDING => Next::Out(Out::Go(Place::Settle(Stage::Clock, self))),
+            Stage::Clock => Next::Out(Out::Go(Place::Settle(Stage::Swap(number), self))),
+            Stage::Swap(_) => Next::Out(Out::Go(Place::Settle(Stage::Again, self))),
+            _ => self.settled(hand, number),
+        }
+    }
 }
 
 impl Place {
-    pub fn next(self, hand: Hand, got: Got) -> Next
-        ensures { λ r. ⌜ r ≡ nextOf self hand got ⌝ }
+    pub fn next(&self, hand: Hand, got: Got) -> Next
+        ensures { λ r. ⌜ r ≡ nextOf (now (self .entry)) hand got ⌝ }
     {
-        match (self, got.number) {
-            (Place::Idle, _) => Next::Out(Out::Go(Place::Idle)),
-            (Place::Head(look), 0) => Next::Out(look.absent(0)),
-            (Place::Head(look), row) => Next::Out(settle(Purpose::LookIns(look, row))),
-            (Place::Settle(Stage::First, purpose), PENDING) => Next::Out(Out::Go(Place::Settle(
-                Stage::Clock,
-                purpose,
-            ))),
-            (Place::Settle(Stage::Clock, purpose), stamp) => Next::Out(Out::Go(Place::Settle(
-                Stage::Swap(stamp),
-                purpose,
-            ))),
-            (Place::Settle(Stage::Swap(_), purpose), _) => Next::Out(Out::Go(Place::Settle(
-                Stage::Again,
-                purpose,
-            ))),
-            (Place::Settle(_, purpose), number) => purpose.settled(hand, number),
-            (Place::Link(change, _), _) => change.link_done(hand.spare, got.done),
-            (Place::End(change, row), _) => Next::Out(change.end_done(row, got.done)),
-            (Place::LostHead(key), row) => Next::Out(settle(Purpose::WonIns(key, row))),
-            (Place::Raise(survey), t) if got.done => Next::Raised(survey, t),
-            (Place::Raise(_), _) => Next::Out(Out::Done(Answer::ClockSpent)),
-            (Place::WalkHead(walk), row) => walk.head_read(row),
-            (Place::WalkOlder(walk, row), number) => walk.ins_read(row, hand, number),
+        match *self {
+            Place::Idle => Next::Out(Out::Go(Place::Idle)),
+            Place::Head(look) if got.number == 0 => Next::Out(look.absent(0)),
+            Place::Head(look) => Next::Out(settle(Purpose::LookIns(look, got.number))),
+            Place::Settle(stage, purpose) => purpose.settling(stage, hand, got.number),
+            Place::Link(change, _) => change.link_done(hand.spare, got.done),
+            Place::End(change, row) => Next::Out(change.end_done(row, got.done)),
+            Place::LostHead(key) => Next::Out(settle(Purpose::WonIns(key, got.number))),
+            Place::Raise(survey) if got.done => Next::Raised(survey, got.number),
+            Place::Raise(_) => Next::Out(Out::Done(Answer::ClockSpent)),
+            Place::WalkHead(walk) => walk.head_read(got.number),
+            Place::WalkOlder(walk, row) => walk.ins_read(row, hand, got.number),
         }
     }
 }
