@@ -106,11 +106,11 @@ impl Purpose {
     fn settling(self, stage: Stage, hand: Hand, number: u32) -> Next
         ensures { λ r. ⌜ r ≡ settling stage self hand number ⌝ }
     {
-        match stage {
-            Stage::First if number == PENDING => Next::Out(Out::Go(Place::Settle(Stage::Clock, self))),
-            Stage::Clock => Next::Out(Out::Go(Place::Settle(Stage::Swap(number), self))),
-            Stage::Swap(_) => Next::Out(Out::Go(Place::Settle(Stage::Again, self))),
-            _ => self.settled(hand, number),
+        match (stage, number) {
+            (Stage::First, PENDING) => Next::Out(Out::Go(Place::Settle(Stage::Clock, self))),
+            (Stage::Clock, stamp) => Next::Out(Out::Go(Place::Settle(Stage::Swap(stamp), self))),
+            (Stage::Swap(_), _) => Next::Out(Out::Go(Place::Settle(Stage::Again, self))),
+            (_, number) => self.settled(hand, number),
         }
     }
 }

@@ -7,7 +7,7 @@ ghost use Rattle.replay.specs.Replayed.{Written, Onward};
 use crate::feed::split;
 use crate::put::put;
 use cells::CellMemory;
-use session::answer::answer;
+use session::answer::answer_closed;
 use session::answer::answer_open;
 use session::desk::Desk;
 use stepper::run::Run;
@@ -39,11 +39,12 @@ pub fn replay<M: CellMemory + Drop>(memory: M, text: &[u8], out: &mut [u8]) -> u
     let mut rest = text;
     let mut n = 0;
     while 0 < rest.len() {
-        if let Desk::Open(mut run) = desk {
-            return replay_open(&mut run, rest, out, n);
-        }
+        let memory = match desk {
+            Desk::Open(mut run) => return replay_open(&mut run, rest, out, n),
+            Desk::Closed(memory) => memory,
+        };
         let (line, behind) = split(rest);
-        let answered = answer(desk, line);
+        let answered = answer_closed(memory, line);
         desk = answered.desk;
         let Some(end) = put(out, n, answered.reply) else {
             return n;

@@ -92,7 +92,7 @@ pub fn answer_open<M: CellMemory>(run: &mut Run<M>, line: &[u8]) -> Reply
 }
 
 // The reply to a line while nothing is open: only an opening is a frame.
-fn answer_closed<M: CellMemory>(memory: M, line: &[u8]) -> Answered<M>
+pub fn answer_closed<M: CellMemory>(memory: M, line: &[u8]) -> Answered<M>
     ensures { λ r. ⌜ Replies (Waiting (cells memory)) (frameIn (bytesOf (now (line .entry)))) (r .reply) (sessionOf cells (r .desk)) ⌝ }
 {
     match frames::parse(line) {

@@ -17,18 +17,20 @@ returns-in-Open g c =
     (through-onward _ _ (c .args .text .now) (c .args .out .now) (c .loop-rest .rest .now) (c .loop-rest .out) (c .replay-open .last .out) 0 (c .loop-rest .n) (c .replay-open .result)
     (subst P (c .in-Open .is) (c .loop-rest .inv)) (c .replay-open .ensures))
 
-pub returns-in-rest-put : need.returns-in-rest-put
-returns-in-rest-put g c =
+pub returns-in-rest : need.returns-in-rest
+returns-in-rest g c =
+    let P : Desk (g .M .Denot) → Type 0 = λ x. Through (Shut (g .M·CellMemory .cells (c .args .memory))) (c .args .text .now) (c .args .out .now) 0 (sessionOf (g .M·CellMemory .cells) x) (c .loop-rest .rest .now) (c .loop-rest .out) (c .loop-rest .n) in
     from-start _ (c .args .text .now) (c .args .out .now) (c .put .last .out) (c .loop-rest .n)
     (through-full _ _ _ (c .args .text .now) (c .args .out .now) (c .loop-rest .rest .now) (c .loop-rest .out) (c .put .last .out) (c .split .result .0 .now)
-    0 (c .loop-rest .n) (c .answer-answered .result .reply)
-    (c .loop-rest .inv) (c .loop-rest-test .taken) (c .split .ensures .line) (c .answer-answered .ensures) (c .in-rest-put .ensures tt))
+    0 (c .loop-rest .n) (c .answer-closed-answered .result .reply)
+    (subst P (c .in-Closed .is) (c .loop-rest .inv)) (c .loop-rest-test .taken) (c .split .ensures .line) (c .answer-closed-answered .ensures) (c .in-rest .ensures tt))
 
 pub loop-rest-again : need.loop-rest-again
 loop-rest-again g c =
+    let P : Desk (g .M .Denot) → Type 0 = λ x. Through (Shut (g .M·CellMemory .cells (c .args .memory))) (c .args .text .now) (c .args .out .now) 0 (sessionOf (g .M·CellMemory .cells) x) (c .loop-rest .rest .now) (c .loop-rest .out) (c .loop-rest .n) in
     through-more _ _ _ (c .args .text .now) (c .args .out .now) (c .loop-rest .rest .now) (c .loop-rest .out) (c .put .last .out) (c .split .result .0 .now) (c .split .result .1 .now)
-    0 (c .loop-rest .n) (c .in-Some .end) (c .answer-answered .result .reply)
-    (c .loop-rest .inv) (c .loop-rest-test .taken) (c .split .ensures .line) (c .split .ensures .rest) (c .answer-answered .ensures) (c .in-Some .ensures tt)
+    0 (c .loop-rest .n) (c .in-Some .end) (c .answer-closed-answered .result .reply)
+    (subst P (c .in-Closed .is) (c .loop-rest .inv)) (c .loop-rest-test .taken) (c .split .ensures .line) (c .split .ensures .rest) (c .answer-closed-answered .ensures) (c .in-Some .ensures tt)
 
 pub returns : need.returns
 returns g c =
