@@ -22,7 +22,11 @@ pub fn byte(high: u8, low: u8) -> Option<u8>
 {
     let h = digit(high);
     let l = digit(low);
-    if h < 16 && l < 16 { Some(16 * h + l) } else { None }
+    if h < 16 && l < 16 {
+        Some(16 * h + l)
+    } else {
+        None
+    }
 }
 
 // The capital of a digit's value.

@@ -1,6 +1,6 @@
 // What follows from a place and what its turn gave.
 ghost use mathlib.Core.Path.{_≡_};
-ghost use Rattle.places.specs.Nexts.{settled, settling, linkDone, raiseDone, nextOf};
+ghost use Rattle.places.specs.Nexts.{settled, linkDone, raiseDone, nextOf};
 ghost use Rattle.places.specs.Rules.{edgeChanged, endDone, lostLink};
 use crate::lookup::settle;
 use crate::lookup::unless_below;
@@ -101,18 +101,6 @@ impl Purpose {
             )),
         }
     }
-
-    // After a turn that settles a field.
-    fn settling(self, stage: Stage, hand: Hand, number: u32) -> Next
-        ensures { λ r. ⌜ r ≡ settling stage self hand number ⌝ }
-    {
-        match (stage, number) {
-            (Stage::First, PENDING) => Next::Out(Out::Go(Place::Settle(Stage::Clock, self))),
-            (Stage::Clock, stamp) => Next::Out(Out::Go(Place::Settle(Stage::Swap(stamp), self))),
-            (Stage::Swap(_), _) => Next::Out(Out::Go(Place::Settle(Stage::Again, self))),
-            (_, number) => self.settled(hand, number),
-        }
-    }
 }
 
 impl Place {
@@ -123,7 +111,15 @@ impl Place {
             Place::Idle => Next::Out(Out::Go(Place::Idle)),
             Place::Head(look) if got.number == 0 => Next::Out(look.absent(0)),
             Place::Head(look) => Next::Out(settle(Purpose::LookIns(look, got.number))),
-            Place::Settle(stage, purpose) => purpose.settling(stage, hand, got.number),
+            Place::Settle(stage, purpose) => match (stage, got.number) {
+                (Stage::First, PENDING) => Next::Out(Out::Go(Place::Settle(Stage::Clock, purpose))),
+                (Stage::Clock, stamp) => Next::Out(Out::Go(Place::Settle(
+                    Stage::Swap(stamp),
+                    purpose,
+                ))),
+                (Stage::Swap(_), _) => Next::Out(Out::Go(Place::Settle(Stage::Again, purpose))),
+                (_, number) => purpose.settled(hand, number),
+            },
             Place::Link(change, _) => change.link_done(hand.spare, got.done),
             Place::End(change, row) => Next::Out(change.end_done(row, got.done)),
             Place::LostHead(key) => Next::Out(settle(Purpose::WonIns(key, got.number))),

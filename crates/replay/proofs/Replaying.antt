@@ -90,15 +90,15 @@ pub through-onward : (d e : Session) (text old rest mid new : List ℕ) (n k m :
 through-onward d e text old rest mid new n k m i o = record {
   grows = omega (arith, i .grows, o .grows);
   written = λ s t z.
-    let w : Written s t mid new m = o .written s t (i .on s t z) in
-    record {
-      rest = w .rest;
-      session = w .session;
-      within = w .within;
-      replayed = w .replayed;
-      behind = w .behind ∙ drop-further mid old k m (o .grows) (i .behind);
-      ended = w .ended;
-    };
+      let w : Written s t mid new m = o .written s t (i .on s t z) in
+      record {
+        rest = w .rest;
+        session = w .session;
+        within = w .within;
+        replayed = w .replayed;
+        behind = w .behind ∙ drop-further mid old k m (o .grows) (i .behind);
+        ended = w .ended;
+      };
 }
 
 pub from-start : (d : Session) (text old new : List ℕ) (m : ℕ) → Onward d text old 0 new m → Written d text old new m

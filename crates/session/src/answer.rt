@@ -69,8 +69,14 @@ fn open<M: CellMemory>(memory: M, sizes: Sizes) -> Answered<M>
     ensures desk { λ r. ⌜ sessionOf cells (r .desk) ≡ openSession (Waiting (cells memory)) (Ok sizes) ⌝ }
 {
     match Run::open(memory, sizes) {
-        Ok(run) => Answered { desk: Desk::Open(run), reply: Reply::ToOpen(Code::Done) },
-        Err((memory, refusal)) => Answered { desk: Desk::Closed(memory), reply: Reply::ToOpen(Code::Refused(refusal)) },
+        Ok(run) => Answered {
+            desk: Desk::Open(run),
+            reply: Reply::ToOpen(Code::Done),
+        },
+        Err((memory, refusal)) => Answered {
+            desk: Desk::Closed(memory),
+            reply: Reply::ToOpen(Code::Refused(refusal)),
+        },
     }
 }
 
@@ -80,9 +86,40 @@ pub fn answer_open<M: CellMemory>(run: &mut Run<M>, line: &[u8]) -> Reply
 {
     match frames::parse(line) {
         Some(Frame::Turns { worker, count }) => turns(run, worker, count),
-        Some(Frame::Begin { worker, call, from, to, weight }) => begin(run, Begin { worker, call, from, to, weight }),
-        Some(Frame::Open { keys, workers, vrows, erows, top }) => {
-            match Sizes::new(keys as usize, workers as usize, vrows as usize, erows as usize, top) {
+        Some(
+            Frame::Begin {
+                worker,
+                call,
+                from,
+                to,
+                weight,
+            },
+        ) => begin(
+            run,
+            Begin {
+                worker,
+                call,
+                from,
+                to,
+                weight,
+            },
+        ),
+        Some(
+            Frame::Open {
+                keys,
+                workers,
+                vrows,
+                erows,
+                top,
+            },
+        ) => {
+            match Sizes::new(
+                keys as usize,
+                workers as usize,
+                vrows as usize,
+                erows as usize,
+                top,
+            ) {
                 Ok(sizes) => reopen(run, sizes),
                 Err(refusal) => Reply::ToOpen(Code::Refused(refusal)),
             }
@@ -96,13 +133,33 @@ pub fn answer_closed<M: CellMemory>(memory: M, line: &[u8]) -> Answered<M>
     ensures { λ r. ⌜ Replies (Waiting (cells memory)) (frameIn (bytesOf (now (line .entry)))) (r .reply) (sessionOf cells (r .desk)) ⌝ }
 {
     match frames::parse(line) {
-        Some(Frame::Open { keys, workers, vrows, erows, top }) => {
-            match Sizes::new(keys as usize, workers as usize, vrows as usize, erows as usize, top) {
+        Some(
+            Frame::Open {
+                keys,
+                workers,
+                vrows,
+                erows,
+                top,
+            },
+        ) => {
+            match Sizes::new(
+                keys as usize,
+                workers as usize,
+                vrows as usize,
+                erows as usize,
+                top,
+            ) {
                 Ok(sizes) => open(memory, sizes),
-                Err(refusal) => Answered { desk: Desk::Closed(memory), reply: Reply::ToOpen(Code::Refused(refusal)) },
+                Err(refusal) => Answered {
+                    desk: Desk::Closed(memory),
+                    reply: Reply::ToOpen(Code::Refused(refusal)),
+                },
             }
         }
-        _ => Answered { desk: Desk::Closed(memory), reply: Reply::NoFrame },
+        _ => Answered {
+            desk: Desk::Closed(memory),
+            reply: Reply::NoFrame,
+        },
     }
 }
 
@@ -114,7 +171,10 @@ pub fn answer<M: CellMemory>(desk: Desk<M>, line: &[u8]) -> Answered<M>
         Desk::Closed(memory) => answer_closed(memory, line),
         Desk::Open(mut run) => {
             let reply = answer_open(&mut run, line);
-            Answered { desk: Desk::Open(run), reply }
+            Answered {
+                desk: Desk::Open(run),
+                reply,
+            }
         }
     }
 }

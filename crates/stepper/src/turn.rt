@@ -59,7 +59,11 @@ impl<M: CellMemory> Run<M> {
     {
         let spare = self.spare(w, self.table.workers[w as usize].place.link_kind());
         let t = self.table.workers[w as usize].book.t;
-        let older = older(&self.memory, self.sizes, self.table.workers[w as usize].place.older_row());
+        let older = older(
+            &self.memory,
+            self.sizes,
+            self.table.workers[w as usize].place.older_row(),
+        );
         let edge = self.table.workers[w as usize].place.edge_row();
         if edge == 0 {
             return Hand {

@@ -14,8 +14,8 @@ returns c =
     record {
       line = ap (λ k. take k (c .args .text .now)) e;
       rest = take-rest (c .args .text .now) (c .if-n-text .start)
-        ∙ elim (c .if-n-text .came) [
-            then-n-text w ↦ ap (λ k. drop k (c .args .text .now)) (w .start-is ∙ ap (λ k. k + 1) (c .feed-at-n .ensures .value))
-          | else-n-text w ↦ ap (λ k. drop k (c .args .text .now)) (w .start-is ∙ c .feed-at-n .ensures .value) ∙ drop-feed (c .args .text .now) (feedAt (c .args .text .now)) (omega (arith, w .if-n-text .left, c .feed-at-n .ensures .value))
+          ∙ elim (c .if-n-text .came) [
+            | then-n-text w ↦ ap (λ k. drop k (c .args .text .now)) (w .start-is ∙ ap (λ k. k + 1) (c .feed-at-n .ensures .value))
+            | else-n-text w ↦ ap (λ k. drop k (c .args .text .now)) (w .start-is ∙ c .feed-at-n .ensures .value) ∙ drop-feed (c .args .text .now) (feedAt (c .args .text .now)) (omega (arith, w .if-n-text .left, c .feed-at-n .ensures .value))
           ];
     }
