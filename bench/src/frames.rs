@@ -1,19 +1,34 @@
 //! Frames and replies: one line of hexadecimal digits each.
 
-use crate::plain::{Sizes, Stepper};
+use crate::plain::{Sizes, Stepper, CELLS};
 
 /// The longest frame, in bytes.
 const LONGEST: usize = 11;
 
-/// The program's state: nothing opened, or a run.
-#[derive(Clone, Debug, Default)]
+/// The program's state: nothing opened, or a run, on a number of cells.
+#[derive(Clone, Debug)]
 pub struct Program {
+    cells: usize,
     stepper: Option<Stepper>,
+}
+
+impl Default for Program {
+    fn default() -> Program {
+        Program::new()
+    }
 }
 
 impl Program {
     pub fn new() -> Program {
-        Program::default()
+        Program::on(CELLS)
+    }
+
+    /// A program whose memory has this number of cells.
+    pub fn on(cells: usize) -> Program {
+        Program {
+            cells,
+            stepper: None,
+        }
     }
 
     /// Adds the reply to one line, given without its line feed. The reply has no line feed either.
@@ -22,6 +37,18 @@ impl Program {
         let done = bytes(line, &mut frame).and_then(|frame| self.run(frame, out));
         if done.is_none() {
             put(out, &[0xFF, 0xED]);
+        }
+    }
+
+    /// Adds a reply line to each line of a text.
+    pub fn replay(&mut self, text: &[u8], out: &mut Vec<u8>) {
+        let mut rest = text;
+        while !rest.is_empty() {
+            let end = rest.iter().position(|&byte| byte == b'\n');
+            let line = &rest[..end.unwrap_or(rest.len())];
+            self.reply(line, out);
+            out.push(b'\n');
+            rest = end.map_or(&[], |end| &rest[end + 1..]);
         }
     }
 
@@ -36,7 +63,7 @@ impl Program {
                     edge_rows: u16::from_be_bytes([b1, b0]),
                     greatest_clock: u32::from_be_bytes([t3, t2, t1, t0]),
                 };
-                let code = match Stepper::open(sizes) {
+                let code = match Stepper::open_on(sizes, vec![0; self.cells]) {
                     Ok(stepper) => {
                         self.stepper = Some(stepper);
                         0

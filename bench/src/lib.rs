@@ -2,3 +2,4 @@
 
 pub mod frames;
 pub mod plain;
+pub mod schedules;

@@ -10,7 +10,6 @@ ghost use Rattle.frames.specs.Replies.{replyLine, keyBytes, weightBytes, pageL
 ghost use Rattle.frames.specs.Written.{written, Begun};
 use crate::hex::digits;
 use crate::reply::Reply;
-use codes::Refusal;
 use std::alloc::AllocError;
 
 // Writes a byte.
@@ -74,15 +73,8 @@ fn whole(out: &mut Vec<u8>, start: usize, done: Result<(), AllocError>) -> Resul
 pub fn write_reply(out: &mut Vec<u8>, reply: Reply) -> Result<(), AllocError>
     ensures { λ r. ⌜ vec-items (now (out .exit)) ≡ written r (vec-items (now (out .entry))) (replyLine reply) ⌝ }
 {
-    let start = out.len();
-    let done = match reply {
-        Reply::ToOpen(code) => put_all(out, &[0x81, code.byte()]),
-        Reply::ToBegin(code) => put_all(out, &[0x82, code.byte()]),
-        Reply::ToTurns(code, used) => put_all(out, &[0x83, code.byte(), used]),
-        Reply::ToTake(refusal) => put_all(out, &[0x84, refusal.code()]),
-        Reply::NoFrame => put_all(out, &[0xFF, Refusal::NoFrame.code()]),
-    };
-    whole(out, start, done)
+    let line = reply.line();
+    out.extend_from_slice(&line.digits[0..line.len])
 }
 
 // Writes the line of a page behind what `out` holds; for want of memory, nothing.

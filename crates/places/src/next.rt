@@ -111,10 +111,10 @@ impl Purpose {
 }
 
 impl Place {
-    pub fn next(self, hand: Hand, got: Got) -> Next
-        ensures { λ r. ⌜ r ≡ nextOf self hand got ⌝ }
+    pub fn next(&self, hand: Hand, got: Got) -> Next
+        ensures { λ r. ⌜ r ≡ nextOf (now (self .entry)) hand got ⌝ }
     {
-        match (self, got.number) {
+        match (*self, got.number) {
             (Place::Idle, _) => Next::Out(Out::Go(Place::Idle)),
             (Place::Head(look), 0) => Next::Out(look.absent(0)),
             (Place::Head(look), row) => Next::Out(settle(Purpose::LookIns(look, row))),

@@ -22,20 +22,20 @@ impl Walk {
 
 impl Place {
     // The kind of row that a link takes.
-    pub fn link_kind(self) -> Option<Kind>
-        ensures { λ r. ⌜ r ≡ linkKind self ⌝ }
+    pub fn link_kind(&self) -> Option<Kind>
+        ensures { λ r. ⌜ r ≡ linkKind (now (self .entry)) ⌝ }
     {
-        match self {
+        match *self {
             Place::Link(change, _) => Some(change.kind()),
             _ => None,
         }
     }
 
     // The row whose older may be wanted.
-    pub fn older_row(self) -> Option<(Kind, u32)>
-        ensures { λ r. ⌜ r ≡ olderRow self ⌝ }
+    pub fn older_row(&self) -> Option<(Kind, u32)>
+        ensures { λ r. ⌜ r ≡ olderRow (now (self .entry)) ⌝ }
     {
-        match self {
+        match *self {
             Place::Settle(_, Purpose::WalkIns(walk, row)) => Some((walk.job.kind(), row)),
             Place::WalkOlder(walk, row) => Some((walk.job.kind(), row)),
             _ => None,
@@ -43,10 +43,10 @@ impl Place {
     }
 
     // The edge row whose source, target or weight may be wanted, or 0.
-    pub fn edge_row(self) -> u32
-        ensures { λ r. ⌜ r ≡ edgeRow self ⌝ }
+    pub fn edge_row(&self) -> u32
+        ensures { λ r. ⌜ r ≡ edgeRow (now (self .entry)) ⌝ }
     {
-        match self {
+        match *self {
             Place::Settle(_, Purpose::LookDel(Look::Edge(_, _, _, _), row)) => row,
             Place::Settle(_, Purpose::WalkIns(walk, _)) => walk.edge_row(0),
             Place::Settle(_, Purpose::WalkDel(walk, row)) => walk.edge_row(row),

@@ -113,10 +113,10 @@ impl Stage {
 
 impl Place {
     // `spare` is the worker's next row of the kind that it links, or 0.
-    pub fn touch(self, spare: u32) -> Touch
-        ensures { λ r. ⌜ r ≡ touchOf self spare ⌝ }
+    pub fn touch(&self, spare: u32) -> Touch
+        ensures { λ r. ⌜ r ≡ touchOf (now (self .entry)) spare ⌝ }
     {
-        match self {
+        match *self {
             Place::Idle => Touch::Nothing,
             Place::Head(look) => Touch::Read(Cell::Head(look.head())),
             Place::Settle(stage, purpose) => stage.touch(purpose.field()),

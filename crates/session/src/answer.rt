@@ -5,7 +5,7 @@ ghost use Rattle.frames.specs.Hex.{bytesOf};
 ghost use Rattle.layout.specs.Limits.{sized, numbersOf};
 ghost use Rattle.std.specs.declared.result.Result.the-variants.{Ok};
 ghost use Rattle.stepper.specs.States.{stateOf};
-ghost use Rattle.session.specs.Desks.{sessionOf, Session.Running as Serving};
+ghost use Rattle.session.specs.Desks.{sessionOf, Session.Running as Serving, Session.Shut as Waiting};
 ghost use Rattle.session.specs.Answers.{answerCodeOf, openReply, openSession, Begins, Gives, Asked, Replies};
 use crate::desk::Desk;
 use cells::CellMemory;
@@ -52,42 +52,54 @@ fn turns<M: CellMemory>(run: &mut Run<M>, worker: u8, count: u8) -> Reply
     }
 }
 
-// Opens, or opens anew; a refusal leaves what was open.
-fn open<M: CellMemory>(desk: Desk<M>, sizes: Sizes) -> Answered<M>
-    ensures reply { λ r. ⌜ r .reply ≡ openReply (sessionOf cells desk) (Ok sizes) ⌝ }
-    ensures desk { λ r. ⌜ sessionOf cells (r .desk) ≡ openSession (sessionOf cells desk) (Ok sizes) ⌝ }
+// The sizes that an opening asks for.
+fn sizes_of(keys: u8, workers: u8, vrows: u16, erows: u16, top: u32) -> Result<Sizes, Refusal>
+    ensures { λ r. ⌜ numbersOf r ≡ sized keys workers vrows erows top ⌝ }
 {
-    match desk {
-        Desk::Closed(memory) => match Run::open(memory, sizes) {
-            Ok(run) => Answered {
-                desk: Desk::Open(run),
-                reply: Reply::ToOpen(Code::Done),
-            },
-            Err((memory, refusal)) => Answered {
-                desk: Desk::Closed(memory),
-                reply: Reply::ToOpen(Code::Refused(refusal)),
-            },
+    Sizes::new(
+        keys as usize,
+        workers as usize,
+        vrows as usize,
+        erows as usize,
+        top,
+    )
+}
+
+// Opens anew; a refusal leaves the run that was open.
+fn reopen<M: CellMemory>(run: &mut Run<M>, sizes: Sizes) -> Reply
+    ensures reply { λ r. ⌜ r ≡ openReply (Serving (stateOf cells (now (run .entry)))) (Ok sizes) ⌝ }
+    ensures run { λ _. ⌜ Serving (stateOf cells (now (run .exit))) ≡ openSession (Serving (stateOf cells (now (run .entry)))) (Ok sizes) ⌝ }
+{
+    match run.reopen(sizes) {
+        Ok(()) => Reply::ToOpen(Code::Done),
+        Err(refusal) => Reply::ToOpen(Code::Refused(refusal)),
+    }
+}
+
+// Opens; a refusal leaves the memory as it was.
+fn open<M: CellMemory>(memory: M, sizes: Sizes) -> Answered<M>
+    ensures reply { λ r. ⌜ r .reply ≡ openReply (Waiting (cells memory)) (Ok sizes) ⌝ }
+    ensures desk { λ r. ⌜ sessionOf cells (r .desk) ≡ openSession (Waiting (cells memory)) (Ok sizes) ⌝ }
+{
+    match Run::open(memory, sizes) {
+        Ok(run) => Answered {
+            desk: Desk::Open(run),
+            reply: Reply::ToOpen(Code::Done),
         },
-        Desk::Open(mut run) => match run.reopen(sizes) {
-            Ok(()) => Answered {
-                desk: Desk::Open(run),
-                reply: Reply::ToOpen(Code::Done),
-            },
-            Err(refusal) => Answered {
-                desk: Desk::Open(run),
-                reply: Reply::ToOpen(Code::Refused(refusal)),
-            },
+        Err((memory, refusal)) => Answered {
+            desk: Desk::Closed(memory),
+            reply: Reply::ToOpen(Code::Refused(refusal)),
         },
     }
 }
 
-// A begin or several turns ask for a run that is open.
-fn serve<M: CellMemory>(desk: Desk<M>, frame: Frame) -> Answered<M>
-    ensures { λ r. ⌜ Asked (sessionOf cells desk) frame (r .reply) (sessionOf cells (r .desk)) ⌝ }
+// The reply to a line while a run is open.
+pub fn answer_open<M: CellMemory>(run: &mut Run<M>, line: &[u8]) -> Reply
+    ensures { λ r. ⌜ Replies (Serving (stateOf cells (now (run .entry)))) (frameIn (bytesOf (now (line .entry)))) r (Serving (stateOf cells (now (run .exit)))) ⌝ }
 {
-    match (desk, frame) {
-        (
-            Desk::Open(mut run),
+    match frames::parse(line) {
+        Some(Frame::Turns { worker, count }) => turns(run, worker, count),
+        Some(
             Frame::Begin {
                 worker,
                 call,
@@ -95,45 +107,16 @@ fn serve<M: CellMemory>(desk: Desk<M>, frame: Frame) -> Answered<M>
                 to,
                 weight,
             },
-        ) => {
-            let reply = begin(
-                &mut run,
-                Begin {
-                    worker,
-                    call,
-                    from,
-                    to,
-                    weight,
-                },
-            );
-            Answered {
-                desk: Desk::Open(run),
-                reply,
-            }
-        }
-        (Desk::Open(mut run), Frame::Turns { worker, count }) => {
-            let reply = turns(&mut run, worker, count);
-            Answered {
-                desk: Desk::Open(run),
-                reply,
-            }
-        }
-        (desk, _) => Answered {
-            desk,
-            reply: Reply::NoFrame,
-        },
-    }
-}
-
-// The reply to a line.
-pub fn answer<M: CellMemory>(desk: Desk<M>, line: &[u8]) -> Answered<M>
-    ensures { λ r. ⌜ Replies (sessionOf cells desk) (frameIn (bytesOf (now (line .entry)))) (r .reply) (sessionOf cells (r .desk)) ⌝ }
-{
-    match frames::parse(line) {
-        None => Answered {
-            desk,
-            reply: Reply::NoFrame,
-        },
+        ) => begin(
+            run,
+            Begin {
+                worker,
+                call,
+                from,
+                to,
+                weight,
+            },
+        ),
         Some(
             Frame::Open {
                 keys,
@@ -143,20 +126,56 @@ pub fn answer<M: CellMemory>(desk: Desk<M>, line: &[u8]) -> Answered<M>
                 top,
             },
         ) => {
-            match Sizes::new(
-                keys as usize,
-                workers as usize,
-                vrows as usize,
-                erows as usize,
+            match sizes_of(keys, workers, vrows, erows, top) {
+                Ok(sizes) => reopen(run, sizes),
+                Err(refusal) => Reply::ToOpen(Code::Refused(refusal)),
+            }
+        }
+        Some(Frame::Take { .. }) | None => Reply::NoFrame,
+    }
+}
+
+// The reply to a line while nothing is open: only an opening is a frame.
+pub fn answer_closed<M: CellMemory>(memory: M, line: &[u8]) -> Answered<M>
+    ensures { λ r. ⌜ Replies (Waiting (cells memory)) (frameIn (bytesOf (now (line .entry)))) (r .reply) (sessionOf cells (r .desk)) ⌝ }
+{
+    match frames::parse(line) {
+        Some(
+            Frame::Open {
+                keys,
+                workers,
+                vrows,
+                erows,
                 top,
-            ) {
-                Ok(sizes) => open(desk, sizes),
+            },
+        ) => {
+            match sizes_of(keys, workers, vrows, erows, top) {
+                Ok(sizes) => open(memory, sizes),
                 Err(refusal) => Answered {
-                    desk,
+                    desk: Desk::Closed(memory),
                     reply: Reply::ToOpen(Code::Refused(refusal)),
                 },
             }
         }
-        Some(frame) => serve(desk, frame),
+        _ => Answered {
+            desk: Desk::Closed(memory),
+            reply: Reply::NoFrame,
+        },
+    }
+}
+
+// The reply to a line.
+pub fn answer<M: CellMemory>(desk: Desk<M>, line: &[u8]) -> Answered<M>
+    ensures { λ r. ⌜ Replies (sessionOf cells desk) (frameIn (bytesOf (now (line .entry)))) (r .reply) (sessionOf cells (r .desk)) ⌝ }
+{
+    match desk {
+        Desk::Closed(memory) => answer_closed(memory, line),
+        Desk::Open(mut run) => {
+            let reply = answer_open(&mut run, line);
+            Answered {
+                desk: Desk::Open(run),
+                reply,
+            }
+        }
     }
 }

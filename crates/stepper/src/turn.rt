@@ -19,7 +19,6 @@ use layout::names::Cell;
 use layout::names::Kind;
 use layout::sizes::Sizes;
 use places::place::Hand;
-use places::place::Place;
 
 // The number in a named cell.
 fn look<M: CellMemory>(memory: &M, sizes: Sizes, cell: Cell) -> u32
@@ -54,14 +53,18 @@ impl<M: CellMemory> Run<M> {
     }
 
     // What the worker has at hand without a turn.
-    fn hand(&self, w: u8, place: Place) -> Hand
+    fn hand(&self, w: u8) -> Hand
         requires { ⌜ w < 8 ⌝ }
-        ensures { λ r. ⌜ r ≡ handOf (now (self .entry) .sizes) (cells (now (self .entry) .memory)) w (getD (now (self .entry) .table .workers) w nobody) place ⌝ }
+        ensures { λ r. ⌜ r ≡ handOf (now (self .entry) .sizes) (cells (now (self .entry) .memory)) w (getD (now (self .entry) .table .workers) w nobody) (getD (now (self .entry) .table .workers) w nobody .place) ⌝ }
     {
-        let spare = self.spare(w, place.link_kind());
+        let spare = self.spare(w, self.table.workers[w as usize].place.link_kind());
         let t = self.table.workers[w as usize].book.t;
-        let older = older(&self.memory, self.sizes, place.older_row());
-        let edge = place.edge_row();
+        let older = older(
+            &self.memory,
+            self.sizes,
+            self.table.workers[w as usize].place.older_row(),
+        );
+        let edge = self.table.workers[w as usize].place.edge_row();
         if edge == 0 {
             return Hand {
                 spare,
@@ -88,11 +91,11 @@ impl<M: CellMemory> Run<M> {
         ensures answer { λ r. ⌜ r ≡ answerAt (stateOf cells (now (self .entry))) w ⌝ }
         ensures after { λ _. ⌜ stateOf cells (now (self .exit)) ≡ turned (stateOf cells (now (self .entry))) w ⌝ }
     {
-        let place = self.table.workers[w as usize].place;
-        let hand = self.hand(w, place);
-        let got = perform(&mut self.memory, self.sizes, place.touch(hand.spare));
-        let step = self.table
-            .follow(w as usize, self.sizes, hand, place.next(hand, got));
+        let hand = self.hand(w);
+        let touch = self.table.workers[w as usize].place.touch(hand.spare);
+        let got = perform(&mut self.memory, self.sizes, touch);
+        let next = self.table.workers[w as usize].place.next(hand, got);
+        let step = self.table.follow(w as usize, self.sizes, hand, next);
         enter(&mut self.memory, self.sizes, w, step.entry);
         step.answer
     }
