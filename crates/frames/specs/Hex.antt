@@ -16,11 +16,6 @@ digitOf c =
     (cond (between 65 c 70) (Some (c - 65 + 10))
     (cond (between 97 c 102) (Some (c - 97 + 10)) None))
 
--- the value of a digit, or 16
-abbrev pub valueOr : Option ℕ → ℕ
-valueOr (Some d) = d
-valueOr None = 16
-
 -- the byte of a high and a low digit
 abbrev pub byteOf : Option ℕ → Option ℕ → Option ℕ
 byteOf (Some h) (Some l) = Some (16 * h + l)

@@ -2,17 +2,17 @@
 ghost use mathlib.Core.Path.{_≡_};
 ghost use mathlib.Core.List.{[], _∷_};
 ghost use Prim.Native.Nat.{_<_};
-ghost use Rattle.frames.specs.Hex.{digitOf, valueOr, byteOf, capital, hexOf};
+ghost use Rattle.frames.specs.Hex.{digitOf, byteOf, capital, hexOf};
 
-// The value of a digit, of either case, or 16 where it is none.
-fn digit(c: u8) -> u8
-    ensures { λ r. ⌜ r ≡ valueOr (digitOf c) ⌝ }
+// The value of a digit, of either case.
+fn digit(c: u8) -> Option<u8>
+    ensures { λ r. ⌜ r ≡ digitOf c ⌝ }
 {
     match c {
-        b'0'..=b'9' => c - b'0',
-        b'A'..=b'F' => c - b'A' + 10,
-        b'a'..=b'f' => c - b'a' + 10,
-        _ => 16,
+        b'0'..=b'9' => Some(c - b'0'),
+        b'A'..=b'F' => Some(c - b'A' + 10),
+        b'a'..=b'f' => Some(c - b'a' + 10),
+        _ => None,
     }
 }
 
@@ -20,13 +20,10 @@ fn digit(c: u8) -> u8
 pub fn byte(high: u8, low: u8) -> Option<u8>
     ensures { λ r. ⌜ r ≡ byteOf (digitOf high) (digitOf low) ⌝ }
 {
-    let h = digit(high);
-    let l = digit(low);
-    if h < 16 && l < 16 {
-        Some(16 * h + l)
-    } else {
-        None
-    }
+    let (Some(h), Some(l)) = (digit(high), digit(low)) else {
+        return None;
+    };
+    Some(16 * h + l)
 }
 
 // The capital of a digit's value.
