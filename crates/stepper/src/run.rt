@@ -4,7 +4,7 @@ use layout::sizes::Sizes;
 
 #[derive(Drop)]
 pub struct Run<M> {
-    pub memory: M,
-    pub sizes: Sizes,
-    pub table: Table,
+    pub(crate) memory: M,
+    pub(crate) sizes: Sizes,
+    pub(crate) table: Table,
 }

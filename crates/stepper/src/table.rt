@@ -24,7 +24,7 @@ impl Table {
     }
 
     // One worker's record is lent for change; the others stay.
-    pub fn follow(&mut self, w: usize, sizes: Sizes, hand: Hand, next: Next) -> Step
+    pub(crate) fn follow(&mut self, w: usize, sizes: Sizes, hand: Hand, next: Next) -> Step
         requires { ⌜ w < 8 ⌝ }
         ensures after { λ _. ⌜ now (self .exit) .workers ≡ set (now (self .entry) .workers) w (followed (sizes .keys) (getD (now (self .entry) .workers) w nobody) hand next .worker) ⌝ }
         ensures answer { λ r. ⌜ r .answer ≡ followed (sizes .keys) (getD (now (self .entry) .workers) w nobody) hand next .answer ⌝ }

@@ -86,7 +86,7 @@ impl<M: CellMemory> Run<M> {
     }
 
     // One turn: one touch, and what follows from the place and what the touch gave.
-    pub fn advance(&mut self, w: u8) -> Option<Answer>
+    pub(crate) fn advance(&mut self, w: u8) -> Option<Answer>
         requires { ⌜ w < 8 ⌝ }
         ensures answer { λ r. ⌜ r ≡ answerAt (stateOf cells (now (self .entry))) w ⌝ }
         ensures after { λ _. ⌜ stateOf cells (now (self .exit)) ≡ turned (stateOf cells (now (self .entry))) w ⌝ }
