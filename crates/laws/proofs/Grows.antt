@@ -33,6 +33,7 @@ use Rattle.stepper.specs.Turns.{workerAt}
 use Rattle.stepper.specs.Workers.{linkedOf}
 use Rattle.laws.specs.Fits.{Linked, IsKey, Held, RowOrNone, HeldOrNone, FitPair, Bound, pairHead, FitLook, FitChange, FitFound, FitSurvey, FitJob, FitPurpose, FitPlace}
 use Rattle.laws.specs.Changes.{numberIn}
+use Rattle.laws.proofs.Heads.{look-named, change-named}
 
 -- a later state of the same run: no row is unlinked, no head becomes none
 pub record Later (s t : State) : Type 0 where
@@ -75,19 +76,9 @@ module _ (s t : State) (l : Later s t) where
   look-later (look.Target o p x) f = (pair-later p (f .0), linked-later Vertex x (f .1))
   look-later (look.Edge o p x d) f = bound-later p x d f
 
-  look-named : (k : Look) → FitLook s k → Named (s .sizes) (cell.Head (lookHead k))
-  look-named (look.Vertex o i) f = f
-  look-named (look.Source o p) f = f .0
-  look-named (look.Target o p x) f = f .0 .1
-  look-named (look.Edge o p x d) f = f .keys
-
   pub change-later : (c : Change) → FitChange s c → FitChange t c
   change-later (change.Vertex i) f = key-later i f
   change-later (change.Edge p x d) f = bound-later p x d f
-
-  change-named : (c : Change) → FitChange s c → Named (s .sizes) (cell.Head (changeHead c))
-  change-named (change.Vertex i) f = f
-  change-named (change.Edge p x d) f = f .keys
 
   found-later : (p : Pair) (f : Found) → FitPair s p → FitFound s p f → FitFound t p f
   found-later p (Miss h) n f = none-later (pairHead p) h n f
@@ -104,10 +95,10 @@ module _ (s t : State) (l : Later s t) where
   job-later (job.Target x i j e) f = (key-later i (f .0), key-later j (f .1))
 
   purpose-later : (p : Purpose) → FitPurpose s p → FitPurpose t p
-  purpose-later (purpose.LookIns k r) f = (look-later k (f .0), held-later (lookHead k) r (look-named k (f .0)) (f .1))
-  purpose-later (purpose.LookDel k r) f = (look-later k (f .0), held-later (lookHead k) r (look-named k (f .0)) (f .1))
+  purpose-later (purpose.LookIns k r) f = (look-later k (f .0), held-later (lookHead k) r (look-named s k (f .0)) (f .1))
+  purpose-later (purpose.LookDel k r) f = (look-later k (f .0), held-later (lookHead k) r (look-named s k (f .0)) (f .1))
   purpose-later (purpose.Own g c r) f = (change-later c (f .0), linked-later _ r (f .1))
-  purpose-later (purpose.LostDel c r) f = (change-later c (f .0), held-later (changeHead c) r (change-named c (f .0)) (f .1))
+  purpose-later (purpose.LostDel c r) f = (change-later c (f .0), held-later (changeHead c) r (change-named s c (f .0)) (f .1))
   purpose-later (purpose.WonIns i r) f = linked-later Vertex r f
   purpose-later (purpose.BindAgain o p x d) f = bound-later p x d f
   purpose-later (purpose.AgainSource o p x d g) f = (bound-later p x d (f .0), found-later p g (f .0 .keys) (f .1))
@@ -121,8 +112,8 @@ module _ (s t : State) (l : Later s t) where
   place-later place.Idle f = tt
   place-later (place.Head k) f = look-later k f
   place-later (place.Settle st p) f = purpose-later p f
-  place-later (place.Link c h) f = (change-later c (f .0), none-later (changeHead c) h (change-named c (f .0)) (f .1))
-  place-later (place.End c r) f = (change-later c (f .0), held-later (changeHead c) r (change-named c (f .0)) (f .1))
+  place-later (place.Link c h) f = (change-later c (f .0), none-later (changeHead c) h (change-named s c (f .0)) (f .1))
+  place-later (place.End c r) f = (change-later c (f .0), held-later (changeHead c) r (change-named s c (f .0)) (f .1))
   place-later (place.LostHead i) f = (key-later i (f .0), l .some (head.Vertex i) (f .0) (f .1))
   place-later (place.Raise v) f = survey-later v f
   place-later (place.WalkHead k) f = job-later (k .job) f

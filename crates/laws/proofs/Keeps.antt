@@ -19,10 +19,8 @@ use Rattle.layout.specs.Rows.{rowAt}
 use Rattle.places.specs.declared.place.Change.{Change}
 use Rattle.places.specs.declared.place.Hand.{Hand}
 use Rattle.places.specs.declared.place.Got.{Got}
-use Rattle.places.specs.declared.place.Look.{Look}
 use Rattle.places.specs.declared.place.Look.the-variants as look
 use Rattle.places.specs.declared.place.Stage.{Stage}
-use Rattle.places.specs.declared.place.Job.{Job}
 use Rattle.places.specs.declared.place.Job.the-variants as job
 use Rattle.places.specs.declared.place.Purpose.{Purpose}
 use Rattle.places.specs.declared.place.Purpose.the-variants as purpose
@@ -43,9 +41,10 @@ use Rattle.stepper.specs.States.{State}
 use Rattle.stepper.specs.Effects.{gotOf}
 use Rattle.stepper.specs.Turns.{workerAt, rowOr0, spareFor, handOf, handAt, touchAt, nextAt, followedAt, turned}
 use Rattle.stepper.specs.Workers.{nobody, more, at, finishes, finished, linkedOf, withBook, counted, arrived, followed}
-use Rattle.laws.specs.Fits.{Linked, RowOrNone, HeldOrNone, FitLook, FitChange, FitSurvey, FitJob, FitPurpose, FitPlace, Fit}
+use Rattle.laws.specs.Fits.{Linked, RowOrNone, HeldOrNone, FitChange, FitSurvey, FitJob, FitPurpose, FitPlace, Fit}
 use Rattle.laws.specs.Changes.{nextOwn, numberIn, Changes, Changes.keeps, Changes.ticks, Changes.links, Changes.stamps, Changes.ends, Changes.fills, Changes.writes}
 use Rattle.laws.specs.Sound.{Sound}
+use Rattle.laws.proofs.Heads.{look-named, job-named}
 use Rattle.laws.proofs.Owned.{linked-row, next-is, row-bound}
 use Rattle.laws.proofs.Puts.{Enough}
 use Rattle.laws.proofs.Pages.{enough-entered}
@@ -134,18 +133,6 @@ module _ (s : State) (w : ℕ) (z : Sound s) (b : w < s .sizes .workers) where
     some = λ h m p. head-grows h (numberIn s (cell.Head h)) (numberIn t (cell.Head h)) (turn-changes s w fit (cell.Head h) m) p;
   }
 
-  look-named : (l : Look) → FitLook s l → Named (s .sizes) (cell.Head (lookHead l))
-  look-named (look.Vertex o i) f = f
-  look-named (look.Source o p) f = f .0
-  look-named (look.Target o p x) f = f .0 .1
-  look-named (look.Edge o p x d) f = f .keys
-
-  job-named : (j : Job) → FitJob s j → Named (s .sizes) (cell.Head (jobHead j))
-  job-named (job.Key i) f = f
-  job-named (job.Start i) f = f
-  job-named (job.Pair x i j) f = f
-  job-named (job.Target x i j e) f = f .1
-
   -- what a worker has at hand and reads fits its place
   abbrev handFrom : Place → Hand
   handFrom p = handOf (s .sizes) (s .cells) w (workerAt s w) p
@@ -180,13 +167,13 @@ module _ (s : State) (w : ℕ) (z : Sound s) (b : w < s .sizes .workers) where
 
   got-fits : (p : Place) → FitPlace s p → GotAt s p (handFrom p) (gotFrom p)
   got-fits place.Idle f = tt
-  got-fits (place.Head l) f = (refl, z .heads (lookHead l) (look-named l f))
+  got-fits (place.Head l) f = (refl, z .heads (lookHead l) (look-named s l f))
   got-fits (place.Settle st p) f = hand-fits p st f
   got-fits (place.Link c h) f = lost-some c h (f .0) (f .1)
   got-fits (place.End c r) f = tt
   got-fits (place.LostHead i) f = (refl, z .heads (head.Vertex i) (f .0))
   got-fits (place.Raise v) f = tt
-  got-fits (place.WalkHead k) f = z .heads (jobHead (k .job)) (job-named (k .job) f)
+  got-fits (place.WalkHead k) f = z .heads (jobHead (k .job)) (job-named s (k .job) f)
   got-fits (place.WalkOlder k r) f = z .olders (jobKind (k .job)) r (f .1)
 
   next-fits : FitsNext s (nextAt s w)

@@ -3,6 +3,7 @@ mod Pages
 mod Follows
 mod Entries
 mod Owned
+mod Heads
 mod Touched
 mod Stays
 mod Outs

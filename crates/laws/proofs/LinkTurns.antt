@@ -36,9 +36,10 @@ use Rattle.stepper.specs.Turns.{workerAt, cellAt, spareFor, handOf, nextAt, tur
 use Rattle.stepper.specs.Workers.{followed}
 use Rattle.laws.specs.Fits.{FitChange}
 use Rattle.laws.specs.Changes.{nextOwn, numberIn}
+use Rattle.laws.proofs.Heads.{change-named}
 use Rattle.laws.proofs.Puts.{Enough, enough-set, put-at, swap-at}
 use Rattle.laws.proofs.Owned.{next-own}
-use Rattle.laws.proofs.Touched.{head-named, enough-filled, fill-at}
+use Rattle.laws.proofs.Touched.{enough-filled, fill-at}
 
 put-same : (z : Sizes) (cs : List ℕ) (c : Cell) (v : ℕ) → Named z c → Enough z cs → cellAt z (put z cs c v) c ≡ v
 put-same z cs c v n l = getD-set-same cs (indexOf z c) v 0 (omega (arith, index-lt z c n))
@@ -89,7 +90,7 @@ module _ (s : State) (w : ℕ) (d : Change) (h : ℕ) (l : Enough (s .sizes) (s 
   -- the swap says yes where the head is still the one that was read
   pub link-says : 0 < r → linkDone z (s .cells) d h r ≡ eqb (numberIn s top) h
   link-says pos =
-      let n = head-named s d f in
+      let n = change-named s d f in
       let c′ : List ℕ = filled z (s .cells) d h r in
       let e : Enough z c′ = enough-filled z (s .cells) d h r l in
       let i : indexOf z top < length c′ = omega (arith, index-lt z top n) in
@@ -125,7 +126,7 @@ module _ (s : State) (w : ℕ) (d : Change) (h : ℕ) (l : Enough (s .sizes) (s 
       let touched : cellsFrom (workerAt s w .place) ≡ cellsAfter z (s .cells) (cond (eqb r 0) touch.Nothing (touch.Link d h r)) = ap cellsFrom e in
       let linked : cellsAfter z (s .cells) (cond (eqb r 0) touch.Nothing (touch.Link d h r)) ≡ link = ap (λ b. cellsAfter z (s .cells) (cond b touch.Nothing (touch.Link d h r))) zero-no in
       let value : cellAt z link (cell.Older (changeKind d) r) ≡ h =
-      swap-at z (λ y. y ≡ h) (filled z (s .cells) d h r) top (cell.Older (changeKind d) r) h r n (head-named s d f) (enough-filled z (s .cells) d h r l)
+      swap-at z (λ y. y ≡ h) (filled z (s .cells) d h r) top (cell.Older (changeKind d) r) h r n (change-named s d f) (enough-filled z (s .cells) d h r l)
       (λ q v. let x : _≡_ {A = ℕ} 0 1 = cc in absurd (omega arith)) (older-filled z (s .cells) d h r n l) in
       ap (λ x. cellAt z (entered z w (cellsFrom (workerAt s w .place)) (followed (z .keys) (workerAt s w) (handOf z (s .cells) w (workerAt s w) (workerAt s w .place)) x .entry)) (cell.Older (changeKind d) r)) nx
       ∙ ap (λ (x : List ℕ). cellAt z x (cell.Older (changeKind d) r)) (touched ∙ linked) ∙ value

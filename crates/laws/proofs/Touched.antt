@@ -34,6 +34,7 @@ use Rattle.stepper.specs.Effects.{put, bound, filled, cellsAfter}
 use Rattle.stepper.specs.Turns.{workerAt, cellAt, spareFor}
 use Rattle.laws.specs.Fits.{Linked, FitChange, FitPurpose, FitPlace}
 use Rattle.laws.specs.Changes.{OfRow, nextOwn, numberIn, Changes, Changes.keeps, Changes.ticks, Changes.links, Changes.stamps, Changes.ends, Changes.fills}
+use Rattle.laws.proofs.Heads.{change-named}
 use Rattle.laws.proofs.Puts.{Enough, enough-set, put-at, swap-at, raise-at}
 use Rattle.laws.proofs.Owned.{linked-row, next-own}
 
@@ -90,10 +91,6 @@ fill-at z P cs d h r c m n l row there =
 pub enough-filled : (z : Sizes) (cs : List ℕ) (d : Change) (h r : ℕ) → Enough z cs → Enough z (filled z cs d h r)
 enough-filled z cs d h r l = enough-bound z _ d r (enough-set z _ _ 0 (enough-set z _ _ pending (enough-set z cs _ h l)))
 
-pub head-named : (s : State) (d : Change) → FitChange s d → Named (s .sizes) (cell.Head (changeHead d))
-head-named s (change.Vertex i) f = f
-head-named s (change.Edge p x y) f = f .keys
-
 pos-next : (n : ℕ) → eqb n 0 ≡ false → 0 < n
 pos-next n e = let h : n ≡ 0 → ⊥ = eqb-false n 0 e in omega (arith, h)
 
@@ -104,14 +101,14 @@ module _ (s : State) (w : ℕ) (c : Cell) (d : Change) (h : ℕ) (at : workerAt 
 
   -- the head that is swapped is as it was before the row was filled
   head-same : (r : ℕ) → IsRow (s .sizes) (changeKind d) r → cellAt (s .sizes) (filled (s .sizes) (s .cells) d h r) (cell.Head (changeHead d)) ≡ numberIn s (cell.Head (changeHead d))
-  head-same r n = fill-at (s .sizes) (λ y. y ≡ numberIn s (cell.Head (changeHead d))) (s .cells) d h r (cell.Head (changeHead d)) (head-named s d f) n l (λ b y. absurd b) refl
+  head-same r n = fill-at (s .sizes) (λ y. y ≡ numberIn s (cell.Head (changeHead d))) (s .cells) d h r (cell.Head (changeHead d)) (change-named s d f) n l (λ b y. absurd b) refl
 
   linked-at : 0 < nextOwn s w (changeKind d) → Changes s w c (numberIn s c) (cellAt (s .sizes) (cellsAfter (s .sizes) (s .cells) (touch.Link d h (nextOwn s w (changeKind d)))) c)
   linked-at pos =
       let z = s .sizes in
       let r : ℕ = nextOwn s w (changeKind d) in
       let n : IsRow (s .sizes) (changeKind d) (nextOwn s w (changeKind d)) = next-own s w (changeKind d) pos .0 in
-      swap-at z P (filled z (s .cells) d h r) (cell.Head (changeHead d)) c h r m (head-named s d f) (enough-filled z (s .cells) d h r l)
+      swap-at z P (filled z (s .cells) d h r) (cell.Head (changeHead d)) c h r m (change-named s d f) (enough-filled z (s .cells) d h r l)
       (λ e v.
       let x : numberIn s c ≡ h = ap (numberIn s) e ∙ sym (head-same r n) ∙ v in
       links d (subst (λ y. workerAt s w .place ≡ place.Link d y) (sym x) at) e pos refl)

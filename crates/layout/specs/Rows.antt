@@ -8,6 +8,7 @@ use Rattle.layout.specs.declared.sizes.Sizes.{Sizes}
 use Rattle.layout.specs.declared.names.Kind.{Kind}
 use Rattle.layout.specs.declared.names.Kind.the-variants.{Vertex, Edge}
 
+-- the number that stands for no row
 abbrev pub noRow : ℕ
 noRow = 0
 

@@ -12,7 +12,7 @@ use Rattle.layout.specs.declared.names.Kind.{Kind}
 use Rattle.layout.specs.declared.names.Cell.{Cell}
 use Rattle.layout.specs.declared.names.Cell.the-variants as cell
 use Rattle.layout.specs.Layout.{indexOf}
-use Rattle.layout.specs.Rows.{rowAt}
+use Rattle.layout.specs.Rows.{rowAt, noRow}
 use Rattle.places.specs.declared.place.Hand.{Hand}
 use Rattle.places.specs.declared.place.Place.{Place}
 use Rattle.places.specs.declared.place.Touch.{Touch}
@@ -33,7 +33,7 @@ abbrev pub cellAt : Sizes → List ℕ → Cell → ℕ
 cellAt z cs c = getD cs (indexOf z c) 0
 
 abbrev pub rowOr0 : Option ℕ → ℕ
-rowOr0 None = 0
+rowOr0 None = noRow
 rowOr0 (Some r) = r
 
 -- the row that comes next: of a worker's own rows of a kind, in order, the first not linked yet; 0 where all are linked
