@@ -148,7 +148,7 @@ fn main() -> io::Result<()> {
     println!("with that of plain Rust as 1: above 1 it is faster.");
     println!(
         "{:<38}{:>9}{:>9}{:>9}{:>9}{:>13}{:>13}",
-        "schedule", "turns", "plain", "words", "image", "plain/words", "plain/image"
+        "schedule", "turns", "plain", "words", "image", "words/plain", "image/plain"
     );
     let mut product = [1.0; 2];
     for mix in &MIXES {
