@@ -32,8 +32,8 @@ pub fn print_answers(rt: &HostRuntime, page: &Page, start: usize) -> anyhow::Res
     };
     let mut total = [BLANK; 64];
     let mut weakest = [BLANK; 64];
-    let _ = best::<PageView<'_>, questions::Total>(page, start, &mut total);
-    let _ = best::<PageView<'_>, questions::Weakest>(page, start, &mut weakest);
+    let _ = best::<Page<'_>, questions::Total>(page, start, &mut total);
+    let _ = best::<Page<'_>, questions::Weakest>(page, start, &mut weakest);
     println!(rt; "From key {start}, breadth first:")?;
     for k in listed.iter().take(count) {
         print!(rt; "  {k}")?;

@@ -43,7 +43,7 @@ fn best_of<M: Measure>(cells: &[u32], keys: usize, start: usize, out: &mut [Entr
     if page.len() == 0 {
         return Refusal::SizeOutside.code();
     }
-    match best::<PageView<'_>, M>(&page, start, out) {
+    match best::<Page<'_>, M>(&page, start, out) {
         Ok(()) => 0,
         Err(why) => why.code(),
     }

@@ -5,8 +5,8 @@ use Rattle.frames.specs.Replies.{key_bytes}
 use Rattle.frames.proofs.Appending.{append-take-more, hex_keys_++, take_front, begun_err}
 use Rattle.frames.proofs.write.put_keys.Goals as goal
 
-pub returns-in-err-put : goal.returns-in-err-put
-returns-in-err-put c = search (rules, begun_err, take_front)
+pub returns-in_err-put : goal.returns-in_err-put
+returns-in_err-put c = search (rules, begun_err, take_front)
 
 pub loop-key-preserved : goal.loop-key-preserved
 loop-key-preserved c = search (rules, append-take-more (λ ks. hex_of (key_bytes ks)) hex_keys_++)

@@ -5,8 +5,8 @@ use Rattle.frames.specs.Replies.{weight_bytes}
 use Rattle.frames.proofs.Appending.{append-take-more, hex_weights_++, take_front_through, begun_err}
 use Rattle.frames.proofs.write.put_weights.Goals as goal
 
-pub returns-in-err-put-all : goal.returns-in-err-put-all
-returns-in-err-put-all c = search (rules, begun_err, take_front_through)
+pub returns-in_err-put_all : goal.returns-in_err-put_all
+returns-in_err-put_all c = search (rules, begun_err, take_front_through)
 
 pub loop-weight-preserved : goal.loop-weight-preserved
 loop-weight-preserved c = search (rules, append-take-more (λ ws. hex_of (weight_bytes ws)) hex_weights_++)

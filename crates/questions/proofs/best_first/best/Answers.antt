@@ -7,14 +7,14 @@ use Rattle.questions.proofs.best_first.best.Goals as goal
 
 pub search-requires : goal.search-requires
 search-requires g c =
-    let a = start-and_area tt (g.G.GraphView.keys c.args.page.now) (g.G.GraphView.graph c.args.page.now) c.args.start (length c.args.out.now) c.in-ok-asked.ensures in
-    ((omega arith, (simp length-take (omega arith), search rules)), (blank_front c.args.out.now c.fill-first.new.labels c.len-n.result _ (omega arith) c.fill-first.ensures, λ k. none_listed_part _ 64 k))
+    let a = start-and_area tt (g.G.GraphView.keys c.args.page.now) (g.G.GraphView.graph c.args.page.now) c.args.start (length c.args.out.now) c.in_ok-asked.ensures in
+    ((omega arith, (simp length-take (omega arith), search rules)), (blank_front c.args.out.now c.fill_first.new.labels c.len-n.result _ (omega arith) c.fill_first.ensures, λ k. none_listed_part _ 64 k))
 
 pub returns : goal.returns
 returns g c =
-    let a = start-and_area tt (g.G.GraphView.keys c.args.page.now) (g.G.GraphView.graph c.args.page.now) c.args.start (length c.args.out.now) c.in-ok-asked.ensures in
+    let a = start-and_area tt (g.G.GraphView.keys c.args.page.now) (g.G.GraphView.graph c.args.page.now) c.args.start (length c.args.out.now) c.in_ok-asked.ensures in
     record {
-      answer = c.in-ok-asked.ensures;
-      after = answered_front c.args.out.now c.fill-first.new.labels c.search.new.labels c.len-n.result _ c.len-n.ensures.same (omega (arith, c.len-n.ensures.same))
-          (omega (arith, c.search.auto.labels, c.fill-first.auto.labels, length-take c.len-n.result c.fill-first.new.labels)) c.fill-first.ensures c.search.ensures;
+      answer = c.in_ok-asked.ensures;
+      after = answered_front c.args.out.now c.fill_first.new.labels c.search.new.labels c.len-n.result _ c.len-n.ensures.same (omega (arith, c.len-n.ensures.same))
+          (omega (arith, c.search.auto.labels, c.fill_first.auto.labels, length-take c.len-n.result c.fill_first.new.labels)) c.fill_first.ensures c.search.ensures;
     }

@@ -7,12 +7,12 @@ use Rattle.replay.proofs.feed.split.Goals as goal
 
 pub returns : goal.returns
 returns c =
-    let e : c.feed-at-n.result - 0 ≡ feed_at c.args.text.now = omega (arith, c.feed-at-n.ensures.value) in
+    let e : c.feed_at-n.result - 0 ≡ feed_at c.args.text.now = omega (arith, c.feed_at-n.ensures.value) in
     record {
       line = ap (λ k. take k c.args.text.now) e;
       rest = take_rest c.args.text.now c.if-n-text.start
           ∙ elim c.if-n-text.branch [
-            | then-n-text w ↦ ap (λ k. drop k c.args.text.now) (w.start-is ∙ ap (λ k. k + 1) c.feed-at-n.ensures.value)
-            | else-n-text w ↦ ap (λ k. drop k c.args.text.now) (w.start-is ∙ c.feed-at-n.ensures.value) ∙ drop_feed c.args.text.now (feed_at c.args.text.now) (omega (arith, w.if-n-text.false, c.feed-at-n.ensures.value))
+            | then-n-text w ↦ ap (λ k. drop k c.args.text.now) (w.start-is ∙ ap (λ k. k + 1) c.feed_at-n.ensures.value)
+            | else-n-text w ↦ ap (λ k. drop k c.args.text.now) (w.start-is ∙ c.feed_at-n.ensures.value) ∙ drop_feed c.args.text.now (feed_at c.args.text.now) (omega (arith, w.if-n-text.false, c.feed_at-n.ensures.value))
           ];
     }

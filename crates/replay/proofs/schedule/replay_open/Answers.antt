@@ -12,14 +12,14 @@ loop-rest-smaller g c = omega (arith, ap length c.split.ensures.rest, behind_sho
 pub loop-rest-preserved : goal.loop-rest-preserved
 loop-rest-preserved g c =
     through_more _ _ _ c.args.text.now c.args.out.now c.loop-rest.rest.now c.loop-rest.out c.put.new.out c.split.result.0.now c.split.result.1.now
-    c.args.n c.loop-rest.n c.in-Some.end c.answer-open.result
-    c.loop-rest.invariant c.loop-rest-test.true c.split.ensures.line c.split.ensures.rest c.answer-open.ensures c.in-Some.ensures
+    c.args.n c.loop-rest.n c.in-Some.end c.answer_open.result
+    c.loop-rest.invariant c.loop-rest-test.true c.split.ensures.line c.split.ensures.rest c.answer_open.ensures c.in-Some.ensures
 
 pub returns-in-default : goal.returns-in-default
 returns-in-default g c =
     through_full _ _ _ c.args.text.now c.args.out.now c.loop-rest.rest.now c.loop-rest.out c.put.new.out c.split.result.0.now
-    c.args.n c.loop-rest.n c.answer-open.result
-    c.loop-rest.invariant c.loop-rest-test.true c.split.ensures.line c.answer-open.ensures c.in-default.ensures
+    c.args.n c.loop-rest.n c.answer_open.result
+    c.loop-rest.invariant c.loop-rest-test.true c.split.ensures.line c.answer_open.ensures c.in-default.ensures
 
 pub returns : goal.returns
 returns g c = through_all _ _ _ _ c.loop-rest.rest.now c.loop-rest.out c.args.n c.loop-rest.n c.loop-rest.invariant (omega arith)

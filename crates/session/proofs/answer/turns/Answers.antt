@@ -8,7 +8,7 @@ returns-in-Ok g c = record {
   given = Ok c.in-Ok.several;
   state = state_of g.M.CellMemory.cells c.turns.new.self;
   gave = c.in-Ok.ensures.gave;
-  reply = ap (λ k. ToTurns k c.in-Ok.several.used) c.answer-code.ensures;
+  reply = ap (λ k. ToTurns k c.in-Ok.several.used) c.answer_code.ensures;
   session = refl;
 }
 
