@@ -55,7 +55,7 @@ impl Table {
 impl<M: CellMemory> Run<M> {
     // The call that a begin begins, or the first refusal that holds.
     fn begun_as(&self, begin: Begin) -> Result<Call, Refusal>
-        ensures { result ≡ begun_as (state_of cells self.now) begin }
+        ensures { result ≡ begun_as (state_of M.cells self.now) begin }
     {
         let w = begin.worker as usize;
         if w >= self.sizes.workers {
@@ -68,9 +68,9 @@ impl<M: CellMemory> Run<M> {
     }
 
     pub fn begin(&mut self, begin: Begin) -> Result<(), Refusal>
-        ensures answer { done_or result ≡ done_or (begun_as (state_of cells self.old) begin) }
-        ensures after { state_of cells self.new ≡ state_begun (state_of cells self.old) begin.worker (begun_as (state_of cells self.old) begin) }
-        ensures history { Extends (state_of cells self.old) (state_of cells self.new) (AsBegin begin) (done_or result) }
+        ensures answer { done_or result ≡ done_or (begun_as (state_of M.cells self.old) begin) }
+        ensures after { state_of M.cells self.new ≡ state_begun (state_of M.cells self.old) begin.worker (begun_as (state_of M.cells self.old) begin) }
+        ensures history { Extends (state_of M.cells self.old) (state_of M.cells self.new) (AsBegin begin) (done_or result) }
     {
         match self.begun_as(begin) {
             Ok(call) => {

@@ -12,8 +12,8 @@ use layout::sizes::Sizes;
 
 // Sets the first `n` cells to 0.
 fn clear<M: CellMemory>(memory: &mut M, n: usize)
-    requires { n ≤ length (cells memory.old) }
-    ensures { cells memory.new ≡ cleared n (cells memory.old) }
+    requires { n ≤ length (M.cells memory.old) }
+    ensures { M.cells memory.new ≡ cleared n (M.cells memory.old) }
 {
     for i in 0..n {
         let _ = memory.write(i, 0);
@@ -22,8 +22,8 @@ fn clear<M: CellMemory>(memory: &mut M, n: usize)
 
 // Makes the needed cells those of an empty graph, where there are enough.
 fn prepare<M: CellMemory>(memory: &mut M, sizes: Sizes) -> Result<(), Refusal>
-    ensures answer { result ≡ too_few (cells memory.old) sizes }
-    ensures after { cells memory.new ≡ opened_cells (cells memory.old) sizes }
+    ensures answer { result ≡ too_few (M.cells memory.old) sizes }
+    ensures after { M.cells memory.new ≡ opened_cells (M.cells memory.old) sizes }
 {
     let needed = sizes.needed();
     if memory.len() < needed {
@@ -37,7 +37,7 @@ fn prepare<M: CellMemory>(memory: &mut M, sizes: Sizes) -> Result<(), Refusal>
 impl<M: CellMemory> Run<M> {
     // Opens a run over a memory, or hands the memory back as it was.
     pub fn open(memory: M, sizes: Sizes) -> Result<Run<M>, (M, Refusal)>
-        ensures { opened_or cells result ≡ opened (cells memory) sizes }
+        ensures { opened_or M.cells result ≡ opened (M.cells memory) sizes }
     {
         let mut memory = memory;
         match prepare(&mut memory, sizes) {
@@ -52,8 +52,8 @@ impl<M: CellMemory> Run<M> {
 
     // Opens anew. A refusal leaves the run that was open.
     pub fn reopen(&mut self, sizes: Sizes) -> Result<(), Refusal>
-        ensures answer { result ≡ too_few (state_of cells self.old).cells sizes }
-        ensures after { state_of cells self.new ≡ reopened (state_of cells self.old) sizes }
+        ensures answer { result ≡ too_few (state_of M.cells self.old).cells sizes }
+        ensures after { state_of M.cells self.new ≡ reopened (state_of M.cells self.old) sizes }
     {
         prepare(&mut self.memory, sizes)?;
         self.sizes = sizes;

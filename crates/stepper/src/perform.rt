@@ -11,7 +11,7 @@ use places::place::{Change, Got, Touch};
 
 // Fills a worker's own row: older is the head that was read, ins pending, del 0, and an edge row is bound.
 fn fill<M: CellMemory>(memory: &mut M, sizes: Sizes, change: Change, head: u32, row: u32)
-    ensures { cells memory.new ≡ filled sizes (cells memory.old) change head row }
+    ensures { M.cells memory.new ≡ filled sizes (M.cells memory.old) change head row }
 {
     let kind = change.kind();
     let _ = memory.write(sizes.index(Cell::Older(kind, row)), head);
@@ -26,8 +26,8 @@ fn fill<M: CellMemory>(memory: &mut M, sizes: Sizes, change: Change, head: u32, 
 
 // Fills a row and swaps the head to it.
 fn link<M: CellMemory>(memory: &mut M, sizes: Sizes, change: Change, head: u32, row: u32) -> bool
-    ensures answer { result ≡ link_done sizes (cells memory.old) change head row }
-    ensures after { cells memory.new ≡ linked_cells sizes (cells memory.old) change head row }
+    ensures answer { result ≡ link_done sizes (M.cells memory.old) change head row }
+    ensures after { M.cells memory.new ≡ linked_cells sizes (M.cells memory.old) change head row }
 {
     fill(memory, sizes, change, head, row);
     memory
@@ -37,8 +37,8 @@ fn link<M: CellMemory>(memory: &mut M, sizes: Sizes, change: Change, head: u32, 
 
 // Does one touch, and says what it gave.
 pub fn perform<M: CellMemory>(memory: &mut M, sizes: Sizes, touch: Touch) -> Got
-    ensures answer { result ≡ got_of sizes (cells memory.old) touch }
-    ensures after { cells memory.new ≡ cells_after sizes (cells memory.old) touch }
+    ensures answer { result ≡ got_of sizes (M.cells memory.old) touch }
+    ensures after { M.cells memory.new ≡ cells_after sizes (M.cells memory.old) touch }
 {
     match touch {
         Touch::Nothing => Got {
@@ -70,7 +70,7 @@ pub fn perform<M: CellMemory>(memory: &mut M, sizes: Sizes, touch: Touch) -> Got
 // Sets `n` cells to 0.
 fn zero<M: CellMemory>(memory: &mut M, start: usize, n: usize)
     requires { start + n < 4294967296 }
-    ensures { cells memory.new ≡ zeroed (cells memory.old) start n }
+    ensures { M.cells memory.new ≡ zeroed (M.cells memory.old) start n }
 {
     for k in 0..n {
         let _ = memory.write(start + k, 0);
@@ -79,7 +79,7 @@ fn zero<M: CellMemory>(memory: &mut M, start: usize, n: usize)
 
 // Writes into a worker's page.
 pub fn enter<M: CellMemory>(memory: &mut M, sizes: Sizes, w: u8, entry: Entry)
-    ensures { cells memory.new ≡ entered sizes w (cells memory.old) entry }
+    ensures { M.cells memory.new ≡ entered sizes w (M.cells memory.old) entry }
 {
     match entry {
         Entry::Nothing => {}

@@ -18,7 +18,7 @@ impl<M: CellMemory> Run<M> {
     // Turns until one answers or `n` are used.
     fn give(&mut self, w: u8, n: u8) -> Several
         requires { w < 8 }
-        ensures { Gave (state_of cells self.old) w n result.answer result.used (state_of cells self.new) }
+        ensures { Gave (state_of M.cells self.old) w n result.answer result.used (state_of M.cells self.new) }
     {
         for i in 0..n {
             if let Some(answer) = self.advance(w) {
@@ -36,8 +36,8 @@ impl<M: CellMemory> Run<M> {
 
     // Stops at the turn that answers.
     pub fn turns(&mut self, w: u8, n: u8) -> Result<Several, Refusal>
-        ensures gave { GaveOr (state_of cells self.old) w n result (state_of cells self.new) }
-        ensures history { GrewOr (state_of cells self.old) w result (state_of cells self.new) }
+        ensures gave { GaveOr (state_of M.cells self.old) w n result (state_of M.cells self.new) }
+        ensures history { GrewOr (state_of M.cells self.old) w result (state_of M.cells self.new) }
     {
         match self.turn_refused(w) {
             Some(refusal) => Err(refusal),

@@ -17,14 +17,14 @@ use places::place::Hand;
 
 // The number in a named cell.
 fn look<M: CellMemory>(memory: &M, sizes: Sizes, cell: Cell) -> u32
-    ensures { result ≡ cell_at sizes (cells memory.now) cell }
+    ensures { result ≡ cell_at sizes (M.cells memory.now) cell }
 {
     memory.read(sizes.index(cell)).unwrap_or(0)
 }
 
 // Older of a row, where one is wanted.
 fn older<M: CellMemory>(memory: &M, sizes: Sizes, row: Option<(Kind, u32)>) -> u32
-    ensures { result ≡ older_at sizes (cells memory.now) row }
+    ensures { result ≡ older_at sizes (M.cells memory.now) row }
 {
     match row {
         Some((kind, row)) => look(memory, sizes, Cell::Older(kind, row)),
@@ -50,7 +50,7 @@ impl<M: CellMemory> Run<M> {
     // What the worker has at hand without a turn.
     fn hand(&self, w: u8) -> Hand
         requires { w < 8 }
-        ensures { result ≡ hand_of self.now.sizes (cells self.now.memory) w (slice_index_or self.now.table.workers w nobody) (get_or self.now.table.workers w nobody).place }
+        ensures { result ≡ hand_of self.now.sizes (M.cells self.now.memory) w (slice_index_or self.now.table.workers w nobody) (get_or self.now.table.workers w nobody).place }
     {
         let spare = self.spare(w, self.table.workers[w as usize].place.link_kind());
         let t = self.table.workers[w as usize].book.t;
@@ -83,8 +83,8 @@ impl<M: CellMemory> Run<M> {
     // One turn: one touch, and what follows from the place and what the touch gave.
     pub(crate) fn advance(&mut self, w: u8) -> Option<Answer>
         requires { w < 8 }
-        ensures answer { result ≡ answer_at (state_of cells self.old) w }
-        ensures after { state_of cells self.new ≡ turned (state_of cells self.old) w }
+        ensures answer { result ≡ answer_at (state_of M.cells self.old) w }
+        ensures after { state_of M.cells self.new ≡ turned (state_of M.cells self.old) w }
     {
         let hand = self.hand(w);
         let touch = self.table.workers[w as usize].place.touch(hand.spare);
@@ -97,7 +97,7 @@ impl<M: CellMemory> Run<M> {
 
     // Why a turn is refused.
     pub fn turn_refused(&self, w: u8) -> Option<Refusal>
-        ensures answer { result ≡ turn_refused (state_of cells self.now) w }
+        ensures answer { result ≡ turn_refused (state_of M.cells self.now) w }
         ensures within { result ≡ None → w < 8 }
     {
         if w as usize >= self.sizes.workers {
@@ -110,9 +110,9 @@ impl<M: CellMemory> Run<M> {
     }
 
     pub fn turn(&mut self, w: u8) -> Result<Option<Answer>, Refusal>
-        ensures answer { result ≡ turn_answer (state_of cells self.old) w }
-        ensures after { state_of cells self.new ≡ stepped (state_of cells self.old) (Turn w) }
-        ensures history { Extends (state_of cells self.old) (state_of cells self.new) (Turn w) (answered_or result) }
+        ensures answer { result ≡ turn_answer (state_of M.cells self.old) w }
+        ensures after { state_of M.cells self.new ≡ stepped (state_of M.cells self.old) (Turn w) }
+        ensures history { Extends (state_of M.cells self.old) (state_of M.cells self.new) (Turn w) (answered_or result) }
     {
         match self.turn_refused(w) {
             Some(refusal) => Err(refusal),

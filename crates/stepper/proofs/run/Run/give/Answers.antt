@@ -9,7 +9,7 @@ returns-in-Some g c =
 
 pub loop-i-preserved : goal.loop-i-preserved
 loop-i-preserved g c =
-    gave_more _ (state_of g.M.CellMemory.cells c.loop-i.self) _ c.args.w c.loop-i.i c.loop-i.invariant.0 c.loop-i.invariant.1 c.in-default.ensures.answer c.in-default.ensures.after
+    gave_more _ (state_of g.M.CellMemory.cells c.loop-i.self) _ c.args.w c.loop-i.i c.loop-i.invariant.0 c.loop-i.invariant.1 c.in_default.ensures.answer c.in_default.ensures.after
 
 pub returns : goal.returns
 returns g c =
