@@ -12,7 +12,7 @@ use crate::view::GraphView;
 // The reached key that is not listed and has the best value, the lowest of equal ones.
 pub fn pick<M: Measure>(labels: &[Entry], listed: &[bool]) -> Option<usize>
     requires { length labels.now ≡ length listed.now }
-    ensures { Picked scale (flag listed.now) (label labels.now) (length labels.now) result }
+    ensures { Picked M.scale (flag listed.now) (label labels.now) (length labels.now) result }
 {
     let mut found = None;
     for (k, label) in labels.iter().enumerate() {
@@ -32,8 +32,8 @@ pub fn pick<M: Measure>(labels: &[Entry], listed: &[bool]) -> Option<usize>
 
 // Offers each key that an edge from `k` leads to the value of `k`, extended.
 pub fn relax<G: GraphView, M: Measure>(page: &G, k: usize, labels: &mut [Entry])
-    requires { (k < keys page.now) × (length labels.old ≡ keys page.now) }
-    ensures { Relaxed scale (graph page.now) (keys page.now) k (label labels.old) (label labels.new) }
+    requires { (k < G.keys page.now) × (length labels.old ≡ G.keys page.now) }
+    ensures { Relaxed M.scale (G.graph page.now) (G.keys page.now) k (label labels.old) (label labels.new) }
 {
     let from = labels[k].value;
     for (j, label) in labels.iter_mut().enumerate() {
@@ -63,9 +63,9 @@ fn search<G: GraphView, M: Measure>(
     labels: &mut [Entry],
     listed: &mut [bool],
 )
-    requires start_bound { (start < keys page.now) × ((length labels.old ≡ keys page.now) × (length listed.old ≡ keys page.now)) }
+    requires start_bound { (start < G.keys page.now) × ((length labels.old ≡ G.keys page.now) × (length listed.old ≡ G.keys page.now)) }
     requires by_index { (((k : ℕ) → label labels.old k ≡ blank)) × (((k : ℕ) → flag listed.old k ≡ false)) }
-    ensures { (k : ℕ) → k < keys page.now → Entered scale (graph page.now) start k (label labels.new k) }
+    ensures { (k : ℕ) → k < G.keys page.now → Entered M.scale (G.graph page.now) start k (label labels.new k) }
 {
     // Every edge joins keys below `n`.
     let n = page.len();
@@ -85,8 +85,8 @@ pub fn best<G: GraphView, M: Measure>(
     start: usize,
     out: &mut [Entry],
 ) -> Result<(), Unanswered>
-    ensures answer { Refuses (unanswered (keys page.now) (graph page.now) start (length out.old)) result }
-    ensures after { AnsweredOr result scale (graph page.now) (keys page.now) start out.old out.new }
+    ensures answer { Refuses (unanswered (G.keys page.now) (G.graph page.now) start (length out.old)) result }
+    ensures after { AnsweredOr result M.scale (G.graph page.now) (G.keys page.now) start out.old out.new }
 {
     asked(page, start, out.len())?;
     let n = page.len();

@@ -9,7 +9,7 @@ use crate::view::GraphView;
 
 // Whether an edge leads from `i` to `j`.
 fn leads<G: GraphView>(page: &G, i: usize, j: usize) -> bool
-    ensures { result ≡ is_some ((graph page.now).edge i j) }
+    ensures { result ≡ is_some ((G.graph page.now).edge i j) }
 {
     page.weight(i, j).is_some()
 }
@@ -31,9 +31,9 @@ fn append(j: usize, out: &mut [u8], count: usize, seen: &mut bool) -> usize
 
 // Serves the listed keys in turn, and lists their neighbours, rising, that are not listed yet.
 fn spread<G: GraphView>(page: &G, start: usize, out: &mut [u8], listed: &mut [bool]) -> usize
-    requires start_bound { (start < keys page.now) × ((keys page.now ≤ length out.old) × (keys page.now ≡ length listed.old)) }
+    requires start_bound { (start < G.keys page.now) × ((G.keys page.now ≤ length out.old) × (G.keys page.now ≡ length listed.old)) }
     requires by_index { (k : ℕ) → flag listed.old k ≡ false }
-    ensures { Ordered (graph page.now) start result out.old out.new }
+    ensures { Ordered (G.graph page.now) start result out.old out.new }
 {
     // Every edge joins keys below `n`.
     let n = page.len();
@@ -55,8 +55,8 @@ fn spread<G: GraphView>(page: &G, start: usize, out: &mut [u8], listed: &mut [bo
 
 // Writes the keys that walks from `start` reach into `out`, breadth first, and answers how many they are.
 pub fn order<G: GraphView>(page: &G, start: usize, out: &mut [u8]) -> Result<usize, Unanswered>
-    ensures answer { Refuses (unanswered (keys page.now) (graph page.now) start (length out.old)) result }
-    ensures after { OrderedOr result (graph page.now) start out.old out.new }
+    ensures answer { Refuses (unanswered (G.keys page.now) (G.graph page.now) start (length out.old)) result }
+    ensures after { OrderedOr result (G.graph page.now) start out.old out.new }
 {
     asked(page, start, out.len())?;
     let n = page.len();

@@ -6,7 +6,7 @@ ghost use Rattle.questions.specs.Export.{answer_byte, OrderedAt, AnsweredAt};
 use crate::best_first::best;
 use crate::breadth_first::order;
 use crate::entry::Entry;
-use crate::measure::Measure;
+use crate::measure::{Measure, Total, Weakest};
 use crate::page::Page;
 use crate::view::GraphView;
 use codes::Refusal;
@@ -37,7 +37,7 @@ pub extern "C" fn questions_order(
 
 fn best_of<M: Measure>(cells: &[u32], keys: usize, start: usize, out: &mut [Entry]) -> u8
     ensures answer { result ≡ answer_byte cells.now keys start (length out.old) }
-    ensures after { AnsweredAt result scale cells.now keys start out.old out.new }
+    ensures after { AnsweredAt result M.scale cells.now keys start out.old out.new }
 {
     let page = Page::new(cells, keys);
     if page.len() == 0 {
@@ -54,7 +54,7 @@ pub extern "C" fn questions_total(cells: &[u32], keys: usize, start: usize, out:
     ensures answer { result ≡ answer_byte cells.now keys start (length out.old) }
     ensures after { AnsweredAt result total_scale cells.now keys start out.old out.new }
 {
-    best_of::<crate::measure::Total>(cells, keys, start, out)
+    best_of::<Total>(cells, keys, start, out)
 }
 
 #[unsafe(no_mangle)]
@@ -67,5 +67,5 @@ pub extern "C" fn questions_weakest(
     ensures answer { result ≡ answer_byte cells.now keys start (length out.old) }
     ensures after { AnsweredAt result weakest_scale cells.now keys start out.old out.new }
 {
-    best_of::<crate::measure::Weakest>(cells, keys, start, out)
+    best_of::<Weakest>(cells, keys, start, out)
 }

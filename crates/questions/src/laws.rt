@@ -6,7 +6,7 @@ use crate::measure::Measure;
 
 // There is one entry that a key can have, so an answer over walks is one answer.
 pub fn entries_fixed<M: Measure>() -> u8
-    ensures { EntryFixed scale }
+    ensures { EntryFixed M.scale }
 {
     0
 }

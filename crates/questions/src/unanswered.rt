@@ -25,7 +25,7 @@ impl Unanswered {
 
 // Whether a question from `start`, with an area of so many entries, can be answered.
 pub fn asked<G: GraphView>(page: &G, start: usize, area: usize) -> Result<(), Unanswered>
-    ensures { Refuses (unanswered (keys page.now) (graph page.now) start area) result }
+    ensures { Refuses (unanswered (G.keys page.now) (G.graph page.now) start area) result }
 {
     let n = page.len();
     if start >= n {

@@ -8,7 +8,10 @@ use Rattle.questions.proofs.best_first.best.Goals as goal
 pub search-requires : goal.search-requires
 search-requires g c =
     let a = start-and_area tt (g.G.GraphView.keys c.args.page.now) (g.G.GraphView.graph c.args.page.now) c.args.start (length c.args.out.now) c.in_ok-asked.ensures in
-    ((omega arith, (simp length-take (omega arith), search rules)), (blank_front c.args.out.now c.fill_first.new.labels c.len-n.result _ (omega arith) c.fill_first.ensures, λ k. none_listed_part _ 64 k))
+    record {
+      start_bound = (omega arith, (simp length-take (omega arith), search rules));
+      by_index = (blank_front c.args.out.now c.fill_first.new.labels c.len-n.result _ (omega arith) c.fill_first.ensures, λ k. none_listed_part _ 64 k);
+    }
 
 pub returns : goal.returns
 returns g c =

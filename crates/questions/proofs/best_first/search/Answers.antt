@@ -9,8 +9,8 @@ pub loop-k-init : goal.loop-k-init
 loop-k-init g c =
     let xs = c.args.labels.now in let s = c.args.start in let y = reached c.first.result in
     let l : s < length xs = omega arith in
-    begun g.met.M.Measure.lawful (g.G.GraphView.graph c.args.page.now) c.len-n.ensures.inside (omega arith) c.requires.1.1
-    (λ k h e. get_or-set_other xs s k y blank e ∙ c.requires.1.0 k) (get_or-set_same xs s y blank l ∙ (let e = c.first.ensures in cc))
+    begun g.met.M.Measure.lawful (g.G.GraphView.graph c.args.page.now) c.len-n.ensures.inside (omega arith) c.requires.by_index.1
+    (λ k h e. get_or-set_other xs s k y blank e ∙ c.requires.by_index.0 k) (get_or-set_same xs s y blank l ∙ (let e = c.first.ensures in cc))
 
 pub loop-k-smaller : goal.loop-k-smaller
 loop-k-smaller g c =
@@ -33,5 +33,5 @@ pub returns : goal.returns
 returns g c =
     let n : length c.loop-k.labels ≡ c.len-n.result =
     omega (arith, length-set c.args.labels.now c.args.start (reached c.first.result)) in
-    let done = c.in-default.ensures in
+    let done = c.in_default.ensures in
     λ k h. finished g.met.M.Measure.lawful (g.G.GraphView.graph c.args.page.now) c.len-n.ensures.inside c.loop-k.invariant (rw n at done) k (omega (arith, c.len-n.ensures.same))

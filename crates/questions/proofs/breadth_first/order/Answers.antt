@@ -6,4 +6,4 @@ use Rattle.questions.proofs.breadth_first.order.Goals as goal
 pub spread-requires : goal.spread-requires
 spread-requires g c =
     let a = start-and_area tt (g.G.GraphView.keys c.args.page.now) (g.G.GraphView.graph c.args.page.now) c.args.start (length c.args.out.now) c.in_ok-asked.ensures in
-    ((omega arith, (omega arith, search rules)), λ k. none_listed_part _ 64 k)
+    (record { start_bound = (omega arith, (omega arith, search rules)); by_index = λ k. none_listed_part _ 64 k })

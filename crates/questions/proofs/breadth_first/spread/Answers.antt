@@ -11,8 +11,8 @@ pub loop-head-init : goal.loop-head-init
 loop-head-init g c =
     let bs = c.args.listed.now in let s = c.args.start in
     let l : s < length bs = omega arith in (
-      first (g.G.GraphView.graph c.args.page.now) c.len-n.ensures.inside (omega arith) c.requires.1 (lists_set bs s l)
-          (all_unlisted (flag bs) c.requires.1 c.len-n.result) (get_or-set_same c.args.out.now 0 s 0 (omega arith)),
+      first (g.G.GraphView.graph c.args.page.now) c.len-n.ensures.inside (omega arith) c.requires.by_index (lists_set bs s l)
+          (all_unlisted (flag bs) c.requires.by_index c.len-n.result) (get_or-set_same c.args.out.now 0 s 0 (omega arith)),
       omega arith,
       λ p h. refl,
     )
