@@ -14,8 +14,3 @@ mod LinkTurns
 mod Keeps
 mod Begins
 mod Runs
-mod Stages
-mod Places
-mod Stamped
-mod Moments
-mod StampRuns
