@@ -32,7 +32,7 @@ fn answer_code(answer: Option<Answer>) -> Code
 }
 
 fn begin<M: CellMemory>(run: &mut Run<M>, begin: Begin) -> Reply
-    ensures { Begins begin (state_of cells run.old) result (Serving (state_of cells run.new)) }
+    ensures { Begins begin (state_of M.cells run.old) result (Serving (state_of M.cells run.new)) }
 {
     match run.begin(begin) {
         Ok(()) => Reply::ToBegin(Code::Done),
@@ -41,7 +41,7 @@ fn begin<M: CellMemory>(run: &mut Run<M>, begin: Begin) -> Reply
 }
 
 fn turns<M: CellMemory>(run: &mut Run<M>, worker: u8, count: u8) -> Reply
-    ensures { Gives worker count (state_of cells run.old) result (Serving (state_of cells run.new)) }
+    ensures { Gives worker count (state_of M.cells run.old) result (Serving (state_of M.cells run.new)) }
 {
     match run.turns(worker, count) {
         Ok(several) => Reply::ToTurns(answer_code(several.answer), several.used),
@@ -64,8 +64,8 @@ fn sizes_of(keys: u8, workers: u8, vrows: u16, erows: u16, top: u32) -> Result<S
 
 // Opens anew; a refusal leaves the run that was open.
 fn reopen<M: CellMemory>(run: &mut Run<M>, sizes: Sizes) -> Reply
-    ensures reply { result ≡ open_reply (Serving (state_of cells run.old)) (Ok sizes) }
-    ensures run { Serving (state_of cells run.new) ≡ open_session (Serving (state_of cells run.old)) (Ok sizes) }
+    ensures reply { result ≡ open_reply (Serving (state_of M.cells run.old)) (Ok sizes) }
+    ensures run { Serving (state_of M.cells run.new) ≡ open_session (Serving (state_of M.cells run.old)) (Ok sizes) }
 {
     match run.reopen(sizes) {
         Ok(()) => Reply::ToOpen(Code::Done),
@@ -75,8 +75,8 @@ fn reopen<M: CellMemory>(run: &mut Run<M>, sizes: Sizes) -> Reply
 
 // Opens; a refusal leaves the memory as it was.
 fn open<M: CellMemory>(memory: M, sizes: Sizes) -> Answered<M>
-    ensures reply { result.reply ≡ open_reply (Waiting (cells memory)) (Ok sizes) }
-    ensures desk { session_of cells result.desk ≡ open_session (Waiting (cells memory)) (Ok sizes) }
+    ensures reply { result.reply ≡ open_reply (Waiting (M.cells memory)) (Ok sizes) }
+    ensures desk { session_of M.cells result.desk ≡ open_session (Waiting (M.cells memory)) (Ok sizes) }
 {
     match Run::open(memory, sizes) {
         Ok(run) => Answered {
@@ -92,7 +92,7 @@ fn open<M: CellMemory>(memory: M, sizes: Sizes) -> Answered<M>
 
 // The reply to a line while a run is open.
 pub fn answer_open<M: CellMemory>(run: &mut Run<M>, line: &[u8]) -> Reply
-    ensures { Replies (Serving (state_of cells run.old)) (frame_in (bytes_of line.now)) result (Serving (state_of cells run.new)) }
+    ensures { Replies (Serving (state_of M.cells run.old)) (frame_in (bytes_of line.now)) result (Serving (state_of M.cells run.new)) }
 {
     match frames::parse(line) {
         Some(Frame::Turns { worker, count }) => turns(run, worker, count),
@@ -134,7 +134,7 @@ pub fn answer_open<M: CellMemory>(run: &mut Run<M>, line: &[u8]) -> Reply
 
 // The reply to a line while nothing is open: only an opening is a frame.
 pub fn answer_closed<M: CellMemory>(memory: M, line: &[u8]) -> Answered<M>
-    ensures { Replies (Waiting (cells memory)) (frame_in (bytes_of line.now)) result.reply (session_of cells result.desk) }
+    ensures { Replies (Waiting (M.cells memory)) (frame_in (bytes_of line.now)) result.reply (session_of M.cells result.desk) }
 {
     match frames::parse(line) {
         Some(
@@ -163,7 +163,7 @@ pub fn answer_closed<M: CellMemory>(memory: M, line: &[u8]) -> Answered<M>
 
 // The reply to a line.
 pub fn answer<M: CellMemory>(desk: Desk<M>, line: &[u8]) -> Answered<M>
-    ensures { Replies (session_of cells desk) (frame_in (bytes_of line.now)) result.reply (session_of cells result.desk) }
+    ensures { Replies (session_of M.cells desk) (frame_in (bytes_of line.now)) result.reply (session_of M.cells result.desk) }
 {
     match desk {
         Desk::Closed(memory) => answer_closed(memory, line),
