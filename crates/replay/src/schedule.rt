@@ -14,7 +14,7 @@ use stepper::run::Run;
 // Goes on behind the first `n` bytes of the area while a run is open.
 fn replay_open<M: CellMemory>(run: &mut Run<M>, text: &[u8], out: &mut [u8], n: usize) -> usize
     requires { n ≤ length out.old }
-    ensures { Onward (Serving (state_of cells run.old)) text.now out.old n out.new result }
+    ensures { Onward (Serving (state_of M.cells run.old)) text.now out.old n out.new result }
 {
     let mut rest = text;
     let mut n = n;
@@ -32,7 +32,7 @@ fn replay_open<M: CellMemory>(run: &mut Run<M>, text: &[u8], out: &mut [u8], n: 
 // Writes a reply line for each line of the text, and says how many bytes were written. A reply that does not fit whole is
 // not written and ends the replay.
 pub fn replay<M: CellMemory + Drop>(memory: M, text: &[u8], out: &mut [u8]) -> usize
-    ensures { Written (Waiting (cells memory)) text.now out.old out.new result }
+    ensures { Written (Waiting (M.cells memory)) text.now out.old out.new result }
 {
     let mut desk = Desk::Closed(memory);
     let mut rest = text;

@@ -15,13 +15,13 @@ returns-in-Open g c =
     (through_onward _ _ c.args.text.now c.args.out.now c.loop-rest.rest.now c.loop-rest.out c.replay_open.new.out 0 c.loop-rest.n c.replay_open.result
     (subst P c.in-Open.is c.loop-rest.invariant) c.replay_open.ensures)
 
-pub returns-in-default : goal.returns-in-default
-returns-in-default g c =
+pub returns-in_default : goal.returns-in_default
+returns-in_default g c =
     let P : Desk g.row.M.Denot → Type 0 = λ x. Through (Shut (g.M.CellMemory.cells c.args.memory)) c.args.text.now c.args.out.now 0 (session_of g.M.CellMemory.cells x) c.loop-rest.rest.now c.loop-rest.out c.loop-rest.n in
     from_start _ c.args.text.now c.args.out.now c.put.new.out c.loop-rest.n
     (through_full _ _ _ c.args.text.now c.args.out.now c.loop-rest.rest.now c.loop-rest.out c.put.new.out c.split.result.0.now
     0 c.loop-rest.n c.answer_closed-answered.result.reply
-    (subst P c.in-Closed.is c.loop-rest.invariant) c.loop-rest-test.true c.split.ensures.line c.answer_closed-answered.ensures c.in-default.ensures)
+    (subst P c.in-Closed.is c.loop-rest.invariant) c.loop-rest-test.true c.split.ensures.line c.answer_closed-answered.ensures c.in_default.ensures)
 
 pub loop-rest-preserved : goal.loop-rest-preserved
 loop-rest-preserved g c =

@@ -15,11 +15,11 @@ loop-rest-preserved g c =
     c.args.n c.loop-rest.n c.in-Some.end c.answer_open.result
     c.loop-rest.invariant c.loop-rest-test.true c.split.ensures.line c.split.ensures.rest c.answer_open.ensures c.in-Some.ensures
 
-pub returns-in-default : goal.returns-in-default
-returns-in-default g c =
+pub returns-in_default : goal.returns-in_default
+returns-in_default g c =
     through_full _ _ _ c.args.text.now c.args.out.now c.loop-rest.rest.now c.loop-rest.out c.put.new.out c.split.result.0.now
     c.args.n c.loop-rest.n c.answer_open.result
-    c.loop-rest.invariant c.loop-rest-test.true c.split.ensures.line c.answer_open.ensures c.in-default.ensures
+    c.loop-rest.invariant c.loop-rest-test.true c.split.ensures.line c.answer_open.ensures c.in_default.ensures
 
 pub returns : goal.returns
 returns g c = through_all _ _ _ _ c.loop-rest.rest.now c.loop-rest.out c.args.n c.loop-rest.n c.loop-rest.invariant (omega arith)
