@@ -1,4 +1,6 @@
 // Reads a page and a start key, and prints the page and the answers to the questions from that key.
+#![tactic(auto)]
+
 mod answers;
 mod fault;
 mod sheet;

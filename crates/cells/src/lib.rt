@@ -1,4 +1,6 @@
 // Cell memory, over the caller's words and over a byte image.
+#![tactic(auto)]
+
 mod image;
 mod memory;
 mod words;

@@ -1,4 +1,6 @@
 // Answers and refusals, and the byte of each.
+#![tactic(auto)]
+
 pub mod answer;
 pub mod refusal;
 

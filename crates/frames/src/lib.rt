@@ -1,4 +1,6 @@
 // The lines of text that are read as frames, and the lines that are written in reply.
+#![tactic(auto)]
+
 pub mod frame;
 mod hex;
 mod laws;

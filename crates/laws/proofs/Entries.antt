@@ -8,7 +8,6 @@ use Rattle.places.specs.declared.place.Job.TheVariants as job
 use Rattle.places.specs.declared.place.Walk.{Walk}
 use Rattle.places.specs.declared.place.Hand.{Hand}
 use Rattle.places.specs.declared.place.Got.{Got}
-use Rattle.places.specs.declared.place.Stage.TheVariants as stage
 use Rattle.places.specs.declared.place.Purpose.{Purpose}
 use Rattle.places.specs.declared.place.Purpose.TheVariants as purpose
 use Rattle.places.specs.declared.place.Place.{Place}

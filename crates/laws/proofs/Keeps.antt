@@ -1,5 +1,5 @@
 -- A turn keeps what every run keeps.
-use Rattle.std.proofs.Common.{◌≡◌, ℕ, ◌-◌, ◌<◌, ◌≤◌, Bool, true, false, cond, eqb, ◌⊎◌, length, get_or, Some, sym, refl, ap, ◌∙◌, subst, inl, inr, ⊎_elim, arith}
+use Rattle.std.proofs.Common.{◌≡◌, ℕ, ◌<◌, ◌≤◌, Bool, true, false, cond, eqb, ◌⊎◌, length, get_or, Some, sym, refl, ap, ◌∙◌, subst, inl, inr, ⊎_elim, arith}
 use Rattle.std.proofs.lemmas.List.{length-set, get_or-set_same, get_or-set_other}
 use Rattle.std.proofs.lemmas.Bool.{cases_eq, cases_lt, eqb-false}
 use Rattle.layout.specs.declared.names.Kind.{Kind}
@@ -12,9 +12,7 @@ use Rattle.layout.specs.Rows.{row_at}
 use Rattle.places.specs.declared.place.Change.{Change}
 use Rattle.places.specs.declared.place.Hand.{Hand}
 use Rattle.places.specs.declared.place.Got.{Got}
-use Rattle.places.specs.declared.place.Look.TheVariants as look
 use Rattle.places.specs.declared.place.Stage.{Stage}
-use Rattle.places.specs.declared.place.Job.TheVariants as job
 use Rattle.places.specs.declared.place.Purpose.{Purpose}
 use Rattle.places.specs.declared.place.Purpose.TheVariants as purpose
 use Rattle.places.specs.declared.place.Place.{Place}

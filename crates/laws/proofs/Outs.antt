@@ -3,10 +3,9 @@ use Rattle.std.proofs.Common.{◌≡◌, ℕ, ◌<◌, Bool, true, false, cond, 
 use Rattle.std.proofs.lemmas.Bool.{eqb-false}
 use Rattle.codes.specs.declared.answer.Answer.TheVariants.{VertexAbsent, RowsSpent, ClockSpent}
 use Rattle.layout.specs.declared.names.Kind.{Kind}
-use Rattle.layout.specs.declared.names.Kind.TheVariants.{Vertex, Edge}
+use Rattle.layout.specs.declared.names.Kind.TheVariants.{Vertex}
 use Rattle.layout.specs.declared.names.Field.{Field}
 use Rattle.layout.specs.declared.names.Field.TheVariants.{Ins, Del}
-use Rattle.layout.specs.declared.names.Head.{Head}
 use Rattle.layout.specs.declared.names.Head.TheVariants as head
 use Rattle.layout.specs.declared.names.Cell.TheVariants as cell
 use Rattle.places.specs.declared.mark.Mark.{Mark}

@@ -1,4 +1,6 @@
 // Laws of single turns, and that every run keeps them.
+#![tactic(auto)]
+
 ghost use Rattle.laws.specs.Laws.{TurnsKeepLaws};
 ghost use Rattle.laws.specs.Sound.{RunsKeepLaws, RunsSound};
 

@@ -5,7 +5,6 @@ use Rattle.layout.specs.declared.names.Kind.{Kind}
 use Rattle.layout.specs.declared.names.Kind.TheVariants.{Vertex, Edge}
 use Rattle.layout.specs.declared.names.Field.{Field}
 use Rattle.layout.specs.declared.names.Field.TheVariants.{Ins, Del}
-use Rattle.layout.specs.declared.names.Head.{Head}
 use Rattle.layout.specs.declared.names.Head.TheVariants as head
 use Rattle.layout.specs.declared.names.Cell.{Cell}
 use Rattle.layout.specs.declared.names.Cell.TheVariants as cell

@@ -1,4 +1,6 @@
 // The sizes of an opening, the names of the cells, and where each lies.
+#![tactic(auto)]
+
 pub mod index;
 pub mod laws;
 pub mod names;

@@ -1,4 +1,6 @@
 // Where a worker stands in its call, what its next turn touches, and what follows.
+#![tactic(auto)]
+
 pub mod call;
 pub mod lookup;
 pub mod mark;

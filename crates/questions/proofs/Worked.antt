@@ -3,7 +3,6 @@ use Rattle.std.proofs.Common.{◌≡◌, ℕ, zero, suc, ◌<◌, [], ◌∷◌,
 use Rattle.questions.specs.declared.entry.Entry.{Entry}
 use Rattle.questions.specs.Graph.{Graph, Inside, Walk, here, on}
 use Rattle.questions.specs.Measures.{Scale, NoBetter, Lawful, total_scale, weakest_scale}
-use Rattle.questions.specs.Search.{reached}
 use Rattle.questions.specs.Best.{along, Entered}
 use Rattle.questions.specs.Order.{key, BreadthFirst}
 use Rattle.questions.specs.Cases.{three, Only, Cases}

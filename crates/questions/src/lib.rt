@@ -1,4 +1,6 @@
 // Questions on a page: which keys walks from a key reach, and the best values of such walks.
+#![tactic(auto)]
+
 mod best_first;
 mod breadth_first;
 mod entry;

@@ -1,5 +1,5 @@
 -- Writing a line digit by digit.
-use Rattle.std.proofs.Common.{◌≡◌, ℕ, ◌+◌, ◌<◌, ◌≤◌, List, [], ◌∷◌, ◌++◌, length, get_or, take, drop, set, sym, refl, ap, ◌∙◌, add-zero, add_assoc, arith}
+use Rattle.std.proofs.Common.{◌≡◌, ℕ, ◌+◌, ◌<◌, ◌≤◌, List, [], ◌∷◌, ◌++◌, length, get_or, take, drop, set, sym, refl, ap, ◌∙◌, add-zero, arith}
 use Rattle.std.proofs.lemmas.List.{append-nil, append_assoc, take_more, take_more_set, drop-set-lt, drop-drop, length-set, length-append, length-take-le}
 use Rattle.frames.specs.Replies.{reply_line}
 use Rattle.frames.specs.declared.reply.Reply.{Reply}

@@ -1,5 +1,5 @@
 -- Replying line by line.
-use Rattle.std.proofs.Common.{◌≡◌, ℕ, ◌+◌, ◌-◌, ◌<◌, ◌≤◌, ◌⊎◌, List, [], ◌∷◌, ◌++◌, length, take, drop, sym, refl, ap, ◌∙◌, subst, inl, inr, arith}
+use Rattle.std.proofs.Common.{◌≡◌, ℕ, ◌+◌, ◌-◌, ◌<◌, ◌≤◌, List, ◌++◌, length, take, drop, sym, refl, ap, ◌∙◌, subst, inl, inr, arith}
 use Rattle.std.proofs.lemmas.List.{drop-drop, nil_from_length}
 use Rattle.frames.specs.Frames.{frame_in}
 use Rattle.frames.specs.Hex.{bytes_of}
@@ -7,7 +7,7 @@ use Rattle.frames.specs.declared.reply.Reply.{Reply}
 use Rattle.session.specs.Answers.{Replies}
 use Rattle.session.specs.Desks.{Session}
 use Rattle.replay.specs.Texts.{line_of, behind_line}
-use Rattle.replay.specs.Replayed.{fed_line, Put, LineReplies, Replayed, Replayed.nothing_yet, Replayed.one_more, NoRoom, Written, Onward}
+use Rattle.replay.specs.Replayed.{fed_line, Put, LineReplies, Replayed, Replayed.nothing_yet, Replayed.one_more, Written, Onward}
 
 -- some lines on: from a session, a text and n bytes to a session, the rest and k bytes
 pub record Through (d : Session) (text old : List ℕ) (n : ℕ) (e : Session) (rest new : List ℕ) (k : ℕ) : Type 0 where

@@ -1,4 +1,6 @@
 // A whole schedule in one call, over any cell memory, into an area of bytes.
+#![tactic(auto)]
+
 mod feed;
 mod put;
 mod schedule;

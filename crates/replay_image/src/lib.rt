@@ -1,5 +1,7 @@
 // A whole schedule in one call over a byte image, for C and Rust to link. A library of its own, so that the compiler joins all
 // of a turn's functions into one.
+#![tactic(auto)]
+
 ghost use Rattle.cells.specs.FourBytes.{words_of};
 ghost use Rattle.session.specs.Desks.{Session.Shut as Waiting};
 ghost use Rattle.replay.specs.Replayed.{Written};

@@ -1,5 +1,5 @@
 -- One reply has one code.
-use Rattle.std.proofs.Common.{◌≡◌, ℕ, Ok, Err, Result, sym, refl, ap, ◌∙◌, arith}
+use Rattle.std.proofs.Common.{◌≡◌, ℕ, Ok, Err, Result, refl, ap, arith}
 use Rattle.codes.specs.declared.refusal.Refusal.{Refusal}
 use Rattle.frames.specs.declared.reply.Code.TheVariants as code
 use Rattle.stepper.specs.Requests.{done_or}

@@ -1,5 +1,5 @@
 -- A line without its line feed.
-use Rattle.std.specs.Prelude.{ℕ, ◌-◌, cond, List, [], length, take, ◌==◌, slice_index}
+use Rattle.std.specs.Prelude.{ℕ, ◌-◌, cond, List, length, take, ◌==◌, slice_index}
 
 -- the last line may have none
 abbrev pub body_of : List ℕ → List ℕ

@@ -1,4 +1,6 @@
 // A run of the versioned contact graph, one atomic step a turn, over any cell memory.
+#![tactic(auto)]
+
 pub mod begin;
 pub mod laws;
 pub mod open;

@@ -1,16 +1,15 @@
 -- A run that is fed lines: what the rules make of its state, and the reply lines.
-use Rattle.std.specs.Prelude.{ℕ, List, [], ◌∷◌, Some, None, Ok, Err, Option, Result}
+use Rattle.std.specs.Prelude.{ℕ, List, [], ◌∷◌, Some, None, Ok, Err, Option}
 use Rattle.codes.specs.declared.refusal.Refusal.{Refusal}
 use Rattle.frames.specs.declared.frame.Frame.{Frame}
 use Rattle.frames.specs.declared.frame.Frame.TheVariants as frame
 use Rattle.frames.specs.declared.reply.Reply.{Reply}
-use Rattle.frames.specs.declared.reply.Reply.TheVariants.{ToBegin, ToTurns, NoFrame}
+use Rattle.frames.specs.declared.reply.Reply.TheVariants.{ToBegin, NoFrame}
 use Rattle.frames.specs.Hex.{bytes_of}
 use Rattle.frames.specs.Frames.{frame_in}
 use Rattle.frames.specs.Replies.{reply_line}
 use Rattle.places.specs.declared.call.Begin.{Begin}
 use Rattle.stepper.specs.declared.request.Request.TheVariants as request
-use Rattle.stepper.specs.declared.several.Several.{Several}
 use Rattle.stepper.specs.States.{State}
 use Rattle.stepper.specs.Requests.{begun_as, stepped, turn_refused}
 use Rattle.stepper.specs.Several.{Outcome, given}

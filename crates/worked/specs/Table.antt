@@ -1,5 +1,5 @@
 -- The worked cases, shown of the rules.
-use Rattle.std.specs.Prelude.{◌≡◌, ℕ, List, [], ◌∷◌, replicate, Ok, Err, codes}
+use Rattle.std.specs.Prelude.{◌≡◌, [], ◌∷◌, replicate, Ok, Err, codes}
 use Rattle.std.proofs.Common.{lit≤}
 use Rattle.codes.specs.declared.refusal.Refusal.TheVariants.{SizeOutside, TooFewCells}
 use Rattle.layout.specs.declared.sizes.Sizes.{Sizes}

@@ -1,4 +1,6 @@
 // The worked cases of the rules.
+#![tactic(auto)]
+
 ghost use Rattle.worked.specs.Table.{Table};
 
 // Each row of the table follows from the rules.

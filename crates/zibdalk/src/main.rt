@@ -1,4 +1,6 @@
 // Replies to a schedule on standard input, over 4,096 cells of words.
+#![tactic(auto)]
+
 ghost use Rattle.std.specs.Prelude.{◌≡◌, replicate};
 
 use cells::Words;

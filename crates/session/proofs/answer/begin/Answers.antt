@@ -1,4 +1,4 @@
-use Rattle.std.proofs.Common.{Ok, Err, ap, rules}
+use Rattle.std.proofs.Common.{Ok, Err, ap}
 use Rattle.frames.specs.declared.reply.Reply.TheVariants.{ToBegin}
 use Rattle.stepper.specs.States.{state_of}
 use Rattle.stepper.specs.Requests.{begun_as}
