@@ -1,4 +1,4 @@
-// Links the static library of the crate questions, and the C parts that it needs.
+// Links the static library of the questions. The crate questions_c makes it; compare/questions/run.sh puts it where it is looked for.
 use std::env;
 use std::path::PathBuf;
 
@@ -8,9 +8,4 @@ fn main() {
     println!("cargo:rustc-link-search=native={}", built.display());
     println!("cargo:rustc-link-lib=static=questions");
     println!("cargo:rerun-if-changed={}", built.join("libquestions.a").display());
-    if let Ok(kit) = env::var("RATTLE_LIB") {
-        println!("cargo:rustc-link-search=native={kit}");
-        println!("cargo:rustc-link-lib=static=rattle_c");
-    }
-    println!("cargo:rerun-if-env-changed=RATTLE_LIB");
 }

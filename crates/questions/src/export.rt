@@ -1,4 +1,5 @@
-// The questions for a C program: each answers 0, or the byte of the reason why there is no answer.
+// The questions over the cells of a page: each answers 0, or the byte of the reason why there is no answer. The crate questions_c
+// exports them for a C program.
 ghost use Rattle.std.specs.Prelude.{◌≡◌, length};
 ghost use Rattle.questions.specs.Measures.{total_scale, weakest_scale};
 ghost use Rattle.questions.specs.Export.{answer_byte, OrderedAt, AnsweredAt};
@@ -11,8 +12,7 @@ use crate::page::Page;
 use crate::view::GraphView;
 use codes::Refusal;
 
-#[unsafe(no_mangle)]
-pub extern "C" fn questions_order(
+pub fn questions_order(
     cells: &[u32],
     keys: usize,
     start: usize,
@@ -49,21 +49,14 @@ fn best_of<M: Measure>(cells: &[u32], keys: usize, start: usize, out: &mut [Entr
     }
 }
 
-#[unsafe(no_mangle)]
-pub extern "C" fn questions_total(cells: &[u32], keys: usize, start: usize, out: &mut [Entry]) -> u8
+pub fn questions_total(cells: &[u32], keys: usize, start: usize, out: &mut [Entry]) -> u8
     ensures answer { result ≡ answer_byte cells.now keys start (length out.old) }
     ensures after { AnsweredAt result total_scale cells.now keys start out.old out.new }
 {
     best_of::<Total>(cells, keys, start, out)
 }
 
-#[unsafe(no_mangle)]
-pub extern "C" fn questions_weakest(
-    cells: &[u32],
-    keys: usize,
-    start: usize,
-    out: &mut [Entry],
-) -> u8
+pub fn questions_weakest(cells: &[u32], keys: usize, start: usize, out: &mut [Entry]) -> u8
     ensures answer { result ≡ answer_byte cells.now keys start (length out.old) }
     ensures after { AnsweredAt result weakest_scale cells.now keys start out.old out.new }
 {

@@ -14,6 +14,7 @@ mod view;
 pub use best_first::best;
 pub use breadth_first::order;
 pub use entry::Entry;
+pub use export::{questions_order, questions_total, questions_weakest};
 pub use laws::{cases_stand, entries_fixed, order_stands};
 pub use measure::{Measure, Total, Weakest};
 pub use page::{NOTHING, Page};

@@ -1,0 +1,43 @@
+// The questions for a C program, a static library: each answers 0, or the byte of the reason why there is no answer.
+#![tactic(auto)]
+
+ghost use Rattle.std.specs.Prelude.{◌≡◌, length};
+ghost use Rattle.questions.specs.Export.{answer_byte, AnsweredAt, OrderedAt};
+ghost use Rattle.questions.specs.Measures.{total_scale, weakest_scale};
+
+use questions::Entry;
+
+#[unsafe(no_mangle)]
+pub extern "C" fn questions_order(
+    cells: &[u32],
+    keys: usize,
+    start: usize,
+    out: &mut [u8],
+    count: &mut usize,
+) -> u8
+    ensures answer { result ≡ answer_byte cells.now keys start (length out.old) }
+    ensures after { OrderedAt result cells.now keys start out.old out.new count.old count.new }
+{
+    questions::questions_order(cells, keys, start, out, count)
+}
+
+#[unsafe(no_mangle)]
+pub extern "C" fn questions_total(cells: &[u32], keys: usize, start: usize, out: &mut [Entry]) -> u8
+    ensures answer { result ≡ answer_byte cells.now keys start (length out.old) }
+    ensures after { AnsweredAt result total_scale cells.now keys start out.old out.new }
+{
+    questions::questions_total(cells, keys, start, out)
+}
+
+#[unsafe(no_mangle)]
+pub extern "C" fn questions_weakest(
+    cells: &[u32],
+    keys: usize,
+    start: usize,
+    out: &mut [Entry],
+) -> u8
+    ensures answer { result ≡ answer_byte cells.now keys start (length out.old) }
+    ensures after { AnsweredAt result weakest_scale cells.now keys start out.old out.new }
+{
+    questions::questions_weakest(cells, keys, start, out)
+}
