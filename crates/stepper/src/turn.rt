@@ -1,5 +1,5 @@
 // One turn of a worker.
-ghost use Rattle.std.specs.Prelude.{◌≡◌, ◌<◌, get_or, None, slice_index_or};
+ghost use Rattle.std.specs.Prelude.{◌≡◌, ◌<◌, None, slice_index_or};
 ghost use Rattle.stepper.specs.States.{state_of};
 ghost use Rattle.stepper.specs.Requests.{turn_refused, turn_answer, answered_or, stepped};
 ghost use Rattle.stepper.specs.History.{Extends};
@@ -50,7 +50,7 @@ impl<M: CellMemory> Run<M> {
     // What the worker has at hand without a turn.
     fn hand(&self, w: u8) -> Hand
         requires { w < 8 }
-        ensures { result ≡ hand_of self.now.sizes (M.cells self.now.memory) w (slice_index_or self.now.table.workers w nobody) (get_or self.now.table.workers w nobody).place }
+        ensures { result ≡ hand_of self.now.sizes (M.cells self.now.memory) w (slice_index_or self.now.table.workers w nobody) (slice_index_or self.now.table.workers w nobody).place }
     {
         let spare = self.spare(w, self.table.workers[w as usize].place.link_kind());
         let t = self.table.workers[w as usize].book.t;
