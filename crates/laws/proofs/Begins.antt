@@ -93,10 +93,10 @@ module _ (s : State) (b : Begin) where
     fits : (w < s.sizes.workers) × FitPlace s (place_first c)
     fits = accepted (ltb w s.sizes.workers) (is_idle (worker_at s w).place) c refl e
 
-    own-begun : worker_at t w ≡ begun (worker_at s w) c
+    pub own-begun : worker_at t w ≡ begun (worker_at s w) c
     own-begun = get_or-set_same s.workers w (begun (worker_at s w) c) nobody (omega (arith, z.table, fits.0))
 
-    other-begun : (v : ℕ) → ¬ (v ≡ w) → worker_at t v ≡ worker_at s v
+    pub other-begun : (v : ℕ) → ¬ (v ≡ w) → worker_at t v ≡ worker_at s v
     other-begun v m = get_or-set_other s.workers w v (begun (worker_at s w) c) nobody m
 
     count_same : (v : ℕ) (k : Kind) → linked_of (worker_at t v) k ≡ linked_of (worker_at s v) k
@@ -109,7 +109,7 @@ module _ (s : State) (b : Begin) where
     later-begun : Later s t
     later-begun = record { sizes = refl; linked = λ v k. omega (arith, count_same v k); some = λ h m p. p }
 
-    was : (k : Kind) (r : ℕ) → Linked t k r → Linked s k r
+    pub was : (k : Kind) (r : ℕ) → Linked t k r → Linked s k r
     was k r l = record { owner = l.owner; place = l.place; before = subst (λ m. l.place < m) (count_same l.owner k) l.before; is = l.is }
 
     begin-sound : Sound t

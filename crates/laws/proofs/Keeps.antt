@@ -4,6 +4,7 @@ use Rattle.std.proofs.lemmas.List.{length-set, get_or-set_same, get_or-set_other
 use Rattle.std.proofs.lemmas.Bool.{cases_eq, cases_lt, eqb-false}
 use Rattle.layout.specs.declared.names.Kind.{Kind}
 use Rattle.layout.specs.declared.names.Kind.TheVariants.{Vertex, Edge}
+use Rattle.layout.specs.declared.names.Field.{Field}
 use Rattle.layout.specs.declared.names.Head.{Head}
 use Rattle.layout.specs.declared.names.Head.TheVariants as head
 use Rattle.layout.specs.declared.names.Cell.TheVariants as cell
@@ -35,6 +36,7 @@ use Rattle.stepper.specs.Workers.{nobody, more, at, finishes, finished, linked_o
 use Rattle.laws.specs.Fits.{Linked, RowOrNone, HeldOrNone, FitChange, FitSurvey, FitJob, FitPurpose, FitPlace, Fit}
 use Rattle.laws.specs.Changes.{next_own, number_in, Changes, Changes.keeps, Changes.ticks, Changes.links, Changes.stamps, Changes.ends, Changes.fills, Changes.writes}
 use Rattle.laws.specs.Sound.{Sound}
+use Rattle.laws.specs.Stamps.{field_start}
 use Rattle.laws.proofs.Heads.{look_named, job_named}
 use Rattle.laws.proofs.Owned.{linked_row, next_is, row_bound}
 use Rattle.laws.proofs.Puts.{Enough}
@@ -44,7 +46,7 @@ use Rattle.laws.proofs.Stays.{turn_changes, turn_laws, settled_of}
 use Rattle.laws.proofs.Outs.{FitOut, FitsNext, HandAt, GotAt, next_of_fit}
 use Rattle.laws.proofs.Counts.{same_kind, count_after, followed_count}
 use Rattle.laws.proofs.Follows.{LinkTurn, Follows, follows}
-use Rattle.laws.proofs.LinkTurns.{lost_differs, won_links, new_older}
+use Rattle.laws.proofs.LinkTurns.{lost_differs, won_links, new_older, new_stamp}
 use Rattle.laws.proofs.Grows.{Later, linked_later, row_later, change_later, place_later}
 use Rattle.laws.proofs.Served.{QueueFits, blank_queue, walked_at_good}
 
@@ -55,13 +57,13 @@ module _ (s : State) (w : ℕ) (z : Sound s) (b : w < s.sizes.workers) where
   in_table : w < length s.workers
   in_table = omega (arith, z.table)
 
-  fit : Fit s w
+  pub fit : Fit s w
   fit = record { worker = b; cells = z.cells; place = z.places w b }
 
-  own_record : worker_at t w ≡ (followed_at s w).worker
+  pub own_record : worker_at t w ≡ (followed_at s w).worker
   own_record = get_or-set_same s.workers w (followed_at s w).worker nobody in_table
 
-  other_record : (v : ℕ) → ¬ (v ≡ w) → worker_at t v ≡ worker_at s v
+  pub other_record : (v : ℕ) → ¬ (v ≡ w) → worker_at t v ≡ worker_at s v
   other_record v n = get_or-set_other s.workers w v (followed_at s w).worker nobody n
 
   -- what follows in this turn
@@ -249,7 +251,7 @@ module _ (s : State) (w : ℕ) (z : Sound s) (b : w < s.sizes.workers) where
   head_sound h y m (writes o) = absurd o
 
   -- a row that is linked now was linked before, or was linked in this turn
-  record New (k : Kind) (r : ℕ) : Type 0 where
+  pub record New (k : Kind) (r : ℕ) : Type 0 where
     pub change : Change
     pub row : ℕ
     pub follows : next_at s w ≡ next.Linked change row
@@ -284,7 +286,7 @@ module _ (s : State) (w : ℕ) (z : Sound s) (b : w < s.sizes.workers) where
   own_split k r n (next.Raised v u) e i h = inl (was_linked k r w n h i)
   own_split k r n (next.Walked v u) e i h = inl (was_linked k r w n h i)
 
-  split : (k : Kind) (r : ℕ) → Linked t k r → Linked s k r ⊎ New k r
+  pub split : (k : Kind) (r : ℕ) → Linked t k r → Linked s k r ⊎ New k r
   split k r l =
       ⊎_elim
       (λ (e : l.owner ≡ w).
@@ -298,17 +300,40 @@ module _ (s : State) (w : ℕ) (z : Sound s) (b : w < s.sizes.workers) where
   over_row c h (inl e) = inl e
   over_row c h (inr x) = inr (linked_later s t later (change_kind c) h x.linked)
 
+  -- the turn that linked a row for change c
+  record Linking (c : Change) : Type 0 where
+    pub over : ℕ
+    pub at_link : (worker_at s w).place ≡ place.Link c over
+    pub fits : FitPlace s (place.Link c over)
+    pub some : 0 < next_own s w (change_kind c)
+    pub follows : next_at s w ≡ next.Linked c (next_own s w (change_kind c))
+
+  linking : (c : Change) (q : ℕ) → next_at s w ≡ next.Linked c q → Linking c
+  linking c q e =
+      let l : LinkTurn (worker_at s w).place (hand_at s w) (got_of s.sizes s.cells (touch_at s w)) c q = subst (Follows (worker_at s w).place (hand_at s w) (got_of s.sizes s.cells (touch_at s w))) e links_now in
+      record {
+        over = l.over;
+        at_link = l.place;
+        fits = subst (FitPlace s) l.place (z.places w b);
+        some = spare_pos c q l;
+        follows = e ∙ ap (next.Linked c) (l.row ∙ spare_is c l.over l.place);
+      }
+
+  -- what holds of the row that a change links holds of the new row
+  at_new : (P : Kind → ℕ → Type 0) (k : Kind) (r : ℕ) (m : New k r) → P (change_kind m.change) (next_own s w (change_kind m.change)) → P k r
+  at_new P k r m x = subst (P k) (sym m.is) (subst (λ (q : Kind). P q (next_own s w q)) m.kind x)
+
   new_sound : (k : Kind) (r : ℕ) → New k r → RowOrNone t k (number_in t (cell.Older k r))
   new_sound k r m =
-      let c : Change = m.change in
-      let l : LinkTurn (worker_at s w).place (hand_at s w) (got_of s.sizes s.cells (touch_at s w)) m.change m.row = subst (Follows (worker_at s w).place (hand_at s w) (got_of s.sizes s.cells (touch_at s w))) m.follows links_now in
-      let p : 0 < next_own s w (change_kind m.change) = spare_pos m.change m.row l in
-      let row : m.row ≡ next_own s w (change_kind m.change) = l.row ∙ spare_is m.change l.over l.place in
-      let f : FitPlace s (place.Link m.change l.over) = subst (FitPlace s) l.place (z.places w b) in
-      let o = new_older s w m.change l.over z.cells f.0 l.place p (m.follows ∙ ap (next.Linked m.change) row) in
-      let at_row : RowOrNone t (change_kind m.change) (number_in t (cell.Older (change_kind m.change) (next_own s w (change_kind m.change)))) = subst (RowOrNone t (change_kind m.change)) (sym o) (over_row m.change l.over f.1) in
-      let at_kind : RowOrNone t k (number_in t (cell.Older k (next_own s w k))) = subst (λ (q : Kind). RowOrNone t q (number_in t (cell.Older q (next_own s w q)))) m.kind at_row in
-      subst (λ q. RowOrNone t k (number_in t (cell.Older k q))) (sym m.is) at_kind
+      let l = linking m.change m.row m.follows in
+      let o = new_older s w m.change l.over z.cells l.fits.0 l.at_link l.some l.follows in
+      at_new (λ q x. RowOrNone t q (number_in t (cell.Older q x))) k r m (subst (RowOrNone t (change_kind m.change)) (sym o) (over_row m.change l.over l.fits.1))
+
+  -- ins of a new row is pending, its del 0
+  pub new_starts : (k : Kind) (r : ℕ) → New k r → (f : Field) → number_in t (cell.Stamp k f r) ≡ field_start f
+  new_starts k r m f =
+      let l = linking m.change m.row m.follows in
+      at_new (λ q x. number_in t (cell.Stamp q f x) ≡ field_start f) k r m (new_stamp s w m.change l.over z.cells l.fits.0 f l.at_link l.some l.follows)
 
   older_sound : (k : Kind) (r : ℕ) → Linked t k r → RowOrNone t k (number_in t (cell.Older k r))
   older_sound k r l =

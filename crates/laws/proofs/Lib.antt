@@ -14,3 +14,8 @@ mod LinkTurns
 mod Keeps
 mod Begins
 mod Runs
+mod Stages
+mod Places
+mod Stamped
+mod Moments
+mod StampRuns

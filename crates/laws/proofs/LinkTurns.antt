@@ -1,9 +1,10 @@
 -- A link turn: whether the swap says yes, and what the new row holds.
-use Rattle.std.proofs.Common.{◌≡◌, ℕ, ◌<◌, Bool, true, false, cond, eqb, ltb, List, length, Some, None, sym, refl, ap, ◌∙◌, arith}
+use Rattle.std.proofs.Common.{◌≡◌, ℕ, ◌<◌, Bool, true, false, cond, eqb, ltb, List, length, Some, None, sym, refl, ap, ◌∙◌, subst, arith}
 use Rattle.std.proofs.lemmas.List.{get_or-set_same}
 use Rattle.std.proofs.lemmas.Bool.{eq-eqb, ne_eqb, lt-ltb, both_ways}
 use Rattle.layout.specs.declared.sizes.Sizes.{Sizes}
 use Rattle.layout.specs.declared.names.Kind.{Kind}
+use Rattle.layout.specs.declared.names.Field.{Field}
 use Rattle.layout.specs.declared.names.Field.TheVariants.{Ins, Del}
 use Rattle.layout.specs.declared.names.Cell.{Cell}
 use Rattle.layout.specs.declared.names.Cell.TheVariants as cell
@@ -29,6 +30,7 @@ use Rattle.stepper.specs.Turns.{worker_at, cell_at, spare_for, hand_of, next_at,
 use Rattle.stepper.specs.Workers.{followed}
 use Rattle.laws.specs.Fits.{FitChange}
 use Rattle.laws.specs.Changes.{next_own, number_in}
+use Rattle.laws.specs.Stamps.{field_start}
 use Rattle.laws.proofs.Heads.{change_named}
 use Rattle.laws.proofs.Puts.{Enough, enough_set, put-at, swap_at}
 use Rattle.laws.proofs.Owned.{next_own_lem}
@@ -37,31 +39,68 @@ use Rattle.laws.proofs.Touched.{enough_filled, fill_at}
 put_same : (z : Sizes) (cs : List ℕ) (c : Cell) (v : ℕ) → Named z c → Enough z cs → cell_at z (put z cs c v) c ≡ v
 put_same z cs c v n l = get_or-set_same cs (index_of z c) v 0 (omega (arith, index_lt z c n))
 
--- older of a row that is filled is the head that was read
-module _ (z : Sizes) (k : Kind) (r : ℕ) (n : IsRow z k r) where
-  older_bound : (cs : List ℕ) (d : Change) → IsRow z (change_kind d) r → Enough z cs → cell_at z (bound z cs d r) (cell.Older k r) ≡ cell_at z cs (cell.Older k r)
-  older_bound cs (change.Vertex i) m l = refl
-  older_bound cs (change.Edge p x y) m l =
-      let P : ℕ → Type 0 = λ v. v ≡ cell_at z cs (cell.Older k r) in
-      let one : List ℕ = put z cs (cell.Source r) x in
-      let two : List ℕ = put z one (cell.Target r) y in
-      let l₁ : Enough z one = enough_set z cs _ x l in
-      put-at z P two (cell.Weight r) (cell.Older k r) p.weight n m (enough_set z one _ y l₁) (λ e. let q : ◌≡◌ {A = ℕ} 0 1 = cc in absurd (omega arith))
-      (put-at z P one (cell.Target r) (cell.Older k r) y n m l₁ (λ e. let q : ◌≡◌ {A = ℕ} 0 1 = cc in absurd (omega arith))
-      (put-at z P cs (cell.Source r) (cell.Older k r) x n m l (λ e. let q : ◌≡◌ {A = ℕ} 0 1 = cc in absurd (omega arith)) refl))
+-- binding an edge row changes its source, target and weight only
+abbrev Unbound : Cell → Type 0
+Unbound cell.Clock = Unit {0}
+Unbound (cell.Head h) = Unit {0}
+Unbound (cell.Older k r) = Unit {0}
+Unbound (cell.Stamp k f r) = Unit {0}
+Unbound (cell.Source r) = ⊥
+Unbound (cell.Target r) = ⊥
+Unbound (cell.Weight r) = ⊥
+Unbound (cell.PageKey v k) = Unit {0}
+Unbound (cell.PagePair v i j) = Unit {0}
 
-older_filled : (z : Sizes) (cs : List ℕ) (d : Change) (h r : ℕ) → IsRow z (change_kind d) r → Enough z cs → cell_at z (filled z cs d h r) (cell.Older (change_kind d) r) ≡ h
-older_filled z cs d h r n l =
-    let k : Kind = change_kind d in
-    let one : List ℕ = put z cs (cell.Older k r) h in
-    let two : List ℕ = put z one (cell.Stamp k Ins r) pending in
-    let l₁ : Enough z one = enough_set z cs _ h l in
-    let l₂ : Enough z two = enough_set z one _ pending l₁ in
-    let P : ℕ → Type 0 = λ v. v ≡ h in
-    older_bound z (change_kind d) r n (put z two (cell.Stamp k Del r) 0) d n (enough_set z two _ 0 l₂)
-    ∙ put-at z P two (cell.Stamp k Del r) (cell.Older k r) 0 n n l₂ (λ e. let q : ◌≡◌ {A = ℕ} 0 1 = cc in absurd (omega arith))
-    (put-at z P one (cell.Stamp k Ins r) (cell.Older k r) pending n n l₁ (λ e. let q : ◌≡◌ {A = ℕ} 0 1 = cc in absurd (omega arith))
-    (put_same z cs (cell.Older k r) h n l))
+bound_same : (z : Sizes) (cs : List ℕ) (d : Change) (r : ℕ) (c : Cell) → Named z c → Unbound c → IsRow z (change_kind d) r → Enough z cs → cell_at z (bound z cs d r) c ≡ cell_at z cs c
+bound_same z cs (change.Vertex i) r c n u m l = refl
+bound_same z cs (change.Edge p x y) r c n u m l =
+    let P : ℕ → Type 0 = λ v. v ≡ cell_at z cs c in
+    let one : List ℕ = put z cs (cell.Source r) x in
+    let two : List ℕ = put z one (cell.Target r) y in
+    let l₁ : Enough z one = enough_set z cs _ x l in
+    put-at z P two (cell.Weight r) c p.weight n m (enough_set z one _ y l₁) (λ e. absurd (subst Unbound e u))
+    (put-at z P one (cell.Target r) c y n m l₁ (λ e. absurd (subst Unbound e u))
+    (put-at z P cs (cell.Source r) c x n m l (λ e. absurd (subst Unbound e u)) refl))
+
+-- what a row that is filled holds
+module _ (z : Sizes) (cs : List ℕ) (d : Change) (h r : ℕ) (n : IsRow z (change_kind d) r) (l : Enough z cs) where
+  abbrev k : Kind
+  k = change_kind d
+
+  abbrev one : List ℕ
+  one = put z cs (cell.Older k r) h
+
+  abbrev two : List ℕ
+  two = put z one (cell.Stamp k Ins r) pending
+
+  abbrev three : List ℕ
+  three = put z two (cell.Stamp k Del r) 0
+
+  enough_one : Enough z one
+  enough_one = enough_set z cs _ h l
+
+  enough_two : Enough z two
+  enough_two = enough_set z one _ pending enough_one
+
+  enough_three : Enough z three
+  enough_three = enough_set z two _ 0 enough_two
+
+  -- older is the head that was read
+  older_filled : cell_at z (filled z cs d h r) (cell.Older (change_kind d) r) ≡ h
+  older_filled =
+      let P : ℕ → Type 0 = λ v. v ≡ h in
+      bound_same z three d r (cell.Older k r) n tt n enough_three
+      ∙ put-at z P two (cell.Stamp k Del r) (cell.Older k r) 0 n n enough_two (λ e. let q : ◌≡◌ {A = ℕ} 0 1 = cc in absurd (omega arith))
+      (put-at z P one (cell.Stamp k Ins r) (cell.Older k r) pending n n enough_one (λ e. let q : ◌≡◌ {A = ℕ} 0 1 = cc in absurd (omega arith))
+      (put_same z cs (cell.Older k r) h n l))
+
+  -- ins is pending, del is 0
+  stamp_filled : (f : Field) → cell_at z (filled z cs d h r) (cell.Stamp (change_kind d) f r) ≡ field_start f
+  stamp_filled Ins =
+      bound_same z three d r (cell.Stamp k Ins r) n tt n enough_three
+      ∙ put-at z (λ v. v ≡ pending) two (cell.Stamp k Del r) (cell.Stamp k Ins r) 0 n n enough_two (λ e. let q : ◌≡◌ {A = ℕ} 0 1 = cc in absurd (omega arith))
+      (put_same z one (cell.Stamp k Ins r) pending n enough_one)
+  stamp_filled Del = bound_same z three d r (cell.Stamp k Del r) n tt n enough_three ∙ put_same z two (cell.Stamp k Del r) 0 n enough_two
 
 -- what follows at a place
 abbrev next_from : State → ℕ → Place → Next
@@ -109,17 +148,28 @@ module _ (s : State) (w : ℕ) (d : Change) (h : ℕ) (l : Enough s.sizes s.cell
       let done : (got_of z s.cells (touch_of (place.Link d h) r)).done ≡ true = got_link zero_no ∙ link_says pos ∙ eq-eqb (number_in s top) h same in
       ap (next_from s w) e ∙ cond_linked (eqb r 0) (got_of z s.cells (touch_of (place.Link d h) r)).done zero_no done
 
-  -- the new row is over the head that was read
-  pub new_older : (worker_at s w).place ≡ place.Link d h → 0 < r → next_at s w ≡ next.Linked d r → number_in (turned s w) (cell.Older (change_kind d) r) ≡ h
-  new_older e pos nx =
-      let n = (next_own_lem s w (change_kind d) pos).0 in
+  -- a link that is won: the cells of the new row hold what they were filled with
+  new_holds : (c : Cell) → Named z c → ¬ (c ≡ top) → (worker_at s w).place ≡ place.Link d h → 0 < r → next_at s w ≡ next.Linked d r → number_in (turned s w) c ≡ cell_at z (filled z s.cells d h r) c
+  new_holds c n apart e pos nx =
       let cells_from : Place → List ℕ = λ p. cells_after z s.cells (touch_of p (spare_for z w (worker_at s w) (link_kind p))) in
       let zero_no : eqb r 0 ≡ false = ne_eqb r 0 (omega arith) in
       let link : List ℕ = cells_after z s.cells (touch.Link d h r) in
       let touched : cells_from (worker_at s w).place ≡ cells_after z s.cells (cond (eqb r 0) touch.Nothing (touch.Link d h r)) = ap cells_from e in
       let linked : cells_after z s.cells (cond (eqb r 0) touch.Nothing (touch.Link d h r)) ≡ link = ap (λ b. cells_after z s.cells (cond b touch.Nothing (touch.Link d h r))) zero_no in
-      let value : cell_at z link (cell.Older (change_kind d) r) ≡ h =
-      swap_at z (λ y. y ≡ h) (filled z s.cells d h r) top (cell.Older (change_kind d) r) h r n (change_named s d f) (enough_filled z s.cells d h r l)
-      (λ q v. let x : ◌≡◌ {A = ℕ} 0 1 = cc in absurd (omega arith)) (older_filled z s.cells d h r n l) in
-      ap (λ x. cell_at z (entered z w (cells_from (worker_at s w).place) (followed z.keys (worker_at s w) (hand_of z s.cells w (worker_at s w) (worker_at s w).place) x).entry) (cell.Older (change_kind d) r)) nx
-      ∙ ap (λ (x : List ℕ). cell_at z x (cell.Older (change_kind d) r)) (touched ∙ linked) ∙ value
+      let value : cell_at z link c ≡ cell_at z (filled z s.cells d h r) c =
+      swap_at z (λ y. y ≡ cell_at z (filled z s.cells d h r) c) (filled z s.cells d h r) top c h r n (change_named s d f) (enough_filled z s.cells d h r l)
+      (λ q v. absurd (apart q)) refl in
+      ap (λ x. cell_at z (entered z w (cells_from (worker_at s w).place) (followed z.keys (worker_at s w) (hand_of z s.cells w (worker_at s w) (worker_at s w).place) x).entry) c) nx
+      ∙ ap (λ (x : List ℕ). cell_at z x c) (touched ∙ linked) ∙ value
+
+  -- the new row is over the head that was read
+  pub new_older : (worker_at s w).place ≡ place.Link d h → 0 < r → next_at s w ≡ next.Linked d r → number_in (turned s w) (cell.Older (change_kind d) r) ≡ h
+  new_older e pos nx =
+      let n = (next_own_lem s w (change_kind d) pos).0 in
+      new_holds (cell.Older (change_kind d) r) n (λ q. let x : ◌≡◌ {A = ℕ} 0 1 = cc in omega arith) e pos nx ∙ older_filled z s.cells d h r n l
+
+  -- its ins is pending, its del 0
+  pub new_stamp : (g : Field) → (worker_at s w).place ≡ place.Link d h → 0 < r → next_at s w ≡ next.Linked d r → number_in (turned s w) (cell.Stamp (change_kind d) g r) ≡ field_start g
+  new_stamp g e pos nx =
+      let n = (next_own_lem s w (change_kind d) pos).0 in
+      new_holds (cell.Stamp (change_kind d) g r) n (λ q. let x : ◌≡◌ {A = ℕ} 0 1 = cc in omega arith) e pos nx ∙ stamp_filled z s.cells d h r n l g

@@ -28,7 +28,7 @@ use Rattle.laws.proofs.Keeps.{turn_sound}
 use Rattle.laws.proofs.Begins.{stepped_begin}
 
 -- each record of a table of copies is the copy, or none
-get_d_replicate : {A : Type 0} (P : A → Type 0) (m i : ℕ) (x d : A) → P x → P d → P (get_or (replicate m x) i d)
+pub get_d_replicate : {A : Type 0} (P : A → Type 0) (m i : ℕ) (x d : A) → P x → P d → P (get_or (replicate m x) i d)
 get_d_replicate P zero i x d a b = b
 get_d_replicate P (suc m) zero x d a b = a
 get_d_replicate P (suc m) (suc i) x d a b = get_d_replicate P m i x d a b
@@ -50,7 +50,7 @@ module _ (z : Sizes) (cs : List ℕ) (l : needed z ≤ length cs) where
   head_none : (h : Head) → Named z (cell.Head h) → number_in start (cell.Head h) ≡ 0
   head_none h m = get_or-set_other (cleared (needed z) cs) 0 (index_of z (cell.Head h)) 1 0 (index_head z h) ∙ front_zero (needed z) (index_of z (cell.Head h)) (drop (needed z) cs) (index_lt z (cell.Head h) m)
 
-  no_links : (v : ℕ) (k : Kind) → linked_of (worker_at start v) k ≡ 0
+  pub no_links : (v : ℕ) (k : Kind) → linked_of (worker_at start v) k ≡ 0
   no_links v Vertex = get_d_replicate (λ u. linked_of u Vertex ≡ 0) 8 v fresh nobody refl refl
   no_links v Edge = get_d_replicate (λ u. linked_of u Edge ≡ 0) 8 v fresh nobody refl refl
 
@@ -69,8 +69,11 @@ taken : (a i : Bool) (x : ℕ) (W : ℕ) → a ≡ ltb x W → cond a (cond i (S
 taken true i x W e f = ltb-true x W (sym e)
 taken false i x W e f = let z : ◌≡◌ {A = ℕ} 0 1 = cc in absurd (omega arith)
 
+pub turn_taken : (s : State) (w : ℕ) → turn_refused s w ≡ None → w < s.sizes.workers
+turn_taken s w e = taken (ltb w s.sizes.workers) (is_idle (worker_at s w).place) w s.sizes.workers refl e
+
 stepped_turn : (s : State) (w : ℕ) → Sound s → (r : Option Refusal) → turn_refused s w ≡ r → Sound (state_or r s (turned s w))
-stepped_turn s w z None e = turn_sound s w z (taken (ltb w s.sizes.workers) (is_idle (worker_at s w).place) w s.sizes.workers refl e)
+stepped_turn s w z None e = turn_sound s w z (turn_taken s w e)
 stepped_turn s w z (Some q) e = z
 
 stepped_sound : (s : State) (q : Request) → Sound s → Sound (stepped s q)

@@ -2,3 +2,4 @@ pub mod Fits
 pub mod Changes
 pub mod Laws
 pub mod Sound
+pub mod Stamps

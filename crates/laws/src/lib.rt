@@ -3,6 +3,7 @@
 
 ghost use Rattle.laws.specs.Laws.{TurnsKeepLaws};
 ghost use Rattle.laws.specs.Sound.{RunsKeepLaws, RunsSound};
+ghost use Rattle.laws.specs.Stamps.{RunsStamp};
 
 // Which cells a turn can change and how, and what it leaves as it was.
 pub fn turn_laws() -> u8
@@ -21,6 +22,13 @@ pub fn runs_sound() -> u8
 // So the laws hold of every turn of every run.
 pub fn runs_keep_laws() -> u8
     ensures { RunsKeepLaws }
+{
+    0
+}
+
+// In every run the clock keeps its limits, and ins and del of a linked row get one stamp each, for ever.
+pub fn runs_stamp() -> u8
+    ensures { RunsStamp }
 {
     0
 }

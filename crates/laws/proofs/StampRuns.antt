@@ -13,7 +13,7 @@ use Rattle.stepper.specs.Requests.{turn_refused, begun_as, state_or, state_begun
 use Rattle.stepper.specs.History.{Event, Traces}
 use Rattle.laws.specs.Fits.{Linked}
 use Rattle.laws.specs.Stamps.{IsStamp, RunsStamp}
-use Rattle.laws.proofs.Keeps.{New, split, new-starts}
+use Rattle.laws.proofs.Keeps.{New, split, new_starts}
 use Rattle.laws.proofs.Runs.{runs_sound}
 use Rattle.laws.proofs.Stamped.{turn_moves, runs_stamped}
 use Rattle.laws.proofs.Moments.{runs_sources}
@@ -48,6 +48,6 @@ runs_stamp z cs l h s t =
       clock = i.clock;
       fields = i.fields;
       turns = λ w b. turn_moves s w k b i;
-      starts = λ w b j f r n x. ⊎_elim (λ (o : Linked s j r). absurd (n o)) (λ (m : New s w k b j r). new-starts s w k b j r m f) (split s w k b j r x);
+      starts = λ w b j f r n x. ⊎_elim (λ (o : Linked s j r). absurd (n o)) (λ (m : New s w k b j r). new_starts s w k b j r m f) (split s w k b j r x);
       sources = runs_sources z cs l h s t;
     }

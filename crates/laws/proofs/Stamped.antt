@@ -15,8 +15,7 @@ use Rattle.places.specs.declared.place.Stage.TheVariants as stage
 use Rattle.places.specs.declared.place.Place.{Place}
 use Rattle.places.specs.declared.place.Place.TheVariants as place
 use Rattle.places.specs.Calls.{place_first}
-use Rattle.places.specs.Marks.{pending}
-use Rattle.workers.specs.Workers.{fresh, nobody}
+use Rattle.stepper.specs.Workers.{fresh, nobody}
 use Rattle.stepper.specs.declared.request.Request.{Request}
 use Rattle.stepper.specs.declared.request.Request.TheVariants as request
 use Rattle.stepper.specs.States.{State}
@@ -30,9 +29,9 @@ use Rattle.laws.specs.Sound.{Sound}
 use Rattle.laws.specs.Stamps.{IsStamp, field_start, Holds, Holds.not_ended, Holds.waits, Holds.stamped, Moves, Moves.same, Moves.ended, Moves.settled}
 use Rattle.laws.proofs.Owned.{linked_row, next_unlinked}
 use Rattle.laws.proofs.Stays.{turn_changes, settled_of}
-use Rattle.laws.proofs.Keeps.{New, fit, split, new-starts}
+use Rattle.laws.proofs.Keeps.{New, fit, split, new_starts}
 use Rattle.laws.proofs.Begins.{was}
-use Rattle.laws.proofs.Runs.{get_d_replicate, no_links, turn-taken, runs_sound}
+use Rattle.laws.proofs.Runs.{get_d_replicate, no_links, turn_taken, runs_sound}
 use Rattle.laws.proofs.Stages.{Staged}
 use Rattle.laws.proofs.Places.{got_at, number_at, turn_places, begin_places}
 
@@ -112,7 +111,7 @@ module _ (s : State) (w : ℕ) (z : Sound s) (b : w < s.sizes.workers) (i : Stam
     hands = turn_places s w z b (InHand s.sizes) own_hand i.hands;
     fields = λ k f r l. ⊎_elim
         (λ (o : Linked s k r). move_holds s.sizes f _ _ (turn_moves k f r o) (i.fields k f r o))
-        (λ (m : New s w z b k r). start_holds s.sizes f _ (new-starts s w z b k r m f))
+        (λ (m : New s w z b k r). start_holds s.sizes f _ (new_starts s w z b k r m f))
         (split s w z b k r l);
   }
 
@@ -132,7 +131,7 @@ begin_stamped s b z i (Ok c) e = record {
 
 refused_stamped : (s : State) (w : ℕ) → Sound s → Stamped s → (r : Option Refusal) → turn_refused s w ≡ r → Stamped (state_or r s (turned s w))
 refused_stamped s w z i (Some q) e = i
-refused_stamped s w z i None e = turn_stamped s w z (turn-taken s w e) i
+refused_stamped s w z i None e = turn_stamped s w z (turn_taken s w e) i
 
 stepped_stamped : (s : State) (q : Request) → Sound s → Stamped s → Stamped (stepped s q)
 stepped_stamped s (request.Begin b) z i = begin_stamped s b z i (begun_as s b) refl

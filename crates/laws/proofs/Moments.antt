@@ -18,7 +18,7 @@ use Rattle.places.specs.declared.place.Place.TheVariants as place
 use Rattle.places.specs.Calls.{place_first}
 use Rattle.places.specs.Marks.{pending}
 use Rattle.places.specs.Touches.{settled_field}
-use Rattle.workers.specs.Workers.{fresh, nobody}
+use Rattle.stepper.specs.Workers.{fresh, nobody}
 use Rattle.stepper.specs.declared.request.Request.{Request}
 use Rattle.stepper.specs.declared.request.Request.TheVariants as request
 use Rattle.stepper.specs.States.{State}
@@ -31,7 +31,7 @@ use Rattle.laws.specs.Changes.{number_in}
 use Rattle.laws.specs.Sound.{Sound}
 use Rattle.laws.specs.Stamps.{IsStamp, Moves, Moves.same, Moves.ended, Moves.settled, Moment}
 use Rattle.laws.proofs.Touched.{Settled, settled_field_lem}
-use Rattle.laws.proofs.Runs.{get_d_replicate, turn-taken, runs_sound}
+use Rattle.laws.proofs.Runs.{get_d_replicate, turn_taken, runs_sound}
 use Rattle.laws.proofs.Stages.{Staged}
 use Rattle.laws.proofs.Places.{got_at, number_at, turn_places, begin_places}
 use Rattle.laws.proofs.Stamped.{Stamped, turn_moves, runs_stamped}
@@ -155,10 +155,10 @@ first_known start h s (call.Survey v) = tt
 
 module _ (start : State) (e : Event) (h : List Event) (s : State) (z : Sound s) (k : AllKnown start h s) where
   kept_known : (t : State) → t.sizes ≡ s.sizes → t.cells ≡ s.cells → (v : ℕ) → v < s.sizes.workers → Known start (e ∷ h) t (worker_at s v).place
-  kept_known t a c v l = known_later start e h s t (record { sizes = a; moves = λ j f r x. same (kept-number j f r) }) (worker_at s v).place (z.places v l) (k v l)
+  kept_known t a c v l = known_later start e h s t (record { sizes = a; moves = λ j f r x. same (kept_number j f r) }) (worker_at s v).place (z.places v l) (k v l)
     where
-      kept-number : (j : Kind) (f : Field) (r : ℕ) → number_in t (cell.Stamp j f r) ≡ number_in s (cell.Stamp j f r)
-      kept-number j f r = cc
+      kept_number : (j : Kind) (f : Field) (r : ℕ) → number_in t (cell.Stamp j f r) ≡ number_in s (cell.Stamp j f r)
+      kept_number j f r = cc
 
   begin_known : (b : Begin) (r : Result Call Refusal) → begun_as s b ≡ r → AllKnown start (e ∷ h) (state_begun s b.worker r)
   begin_known b (Err q) a = kept_known s refl refl
@@ -168,7 +168,7 @@ module _ (start : State) (e : Event) (h : List Event) (s : State) (z : Sound s) 
 
   refused_known : Traces start h s → Stamped s → (w : ℕ) (r : Option Refusal) → turn_refused s w ≡ r → AllKnown start (e ∷ h) (state_or r s (turned s w))
   refused_known tr i w (Some q) a = kept_known s refl refl
-  refused_known tr i w None a = turn_known start e h s tr w z (turn-taken s w a) i k
+  refused_known tr i w None a = turn_known start e h s tr w z (turn_taken s w a) i k
 
   stepped_known : Traces start h s → Stamped s → (q : Request) → AllKnown start (e ∷ h) (stepped s q)
   stepped_known tr i (request.Begin b) = begin_known b (begun_as s b) refl
@@ -181,9 +181,9 @@ module _ (z : Sizes) (cs : List ℕ) (l : needed z ≤ length cs) where
   runs_known : (h : List Event) (s : State) → Traces start h s → AllKnown start h s
   runs_known [] s t = subst (AllKnown start []) t (λ w b. get_d_replicate (λ u. Known start [] start u.place) 8 w fresh nobody tt tt)
   runs_known (e ∷ h) s t =
-      let z₀ = runs_sound z cs l h t.0 t.1 in
+      let k = runs_sound z cs l h t.0 t.1 in
       let i = runs_stamped z cs l h t.0 t.1 in
-      subst (AllKnown start (e ∷ h)) (sym t.3) (stepped_known start e h t.0 z₀ (runs_known h t.0 t.1) t.1 i e.request)
+      subst (AllKnown start (e ∷ h)) (sym t.3) (stepped_known start e h t.0 k (runs_known h t.0 t.1) t.1 i e.request)
 
   swap_source : (h : List Event) (s : State) (n : ℕ) (p : Purpose) → Known start h s (place.Settle (stage.Swap n) p) → number_in s (settled_field p) ≡ pending → Moment start h (settled_field p) n
   swap_source h s n p (inl i) e = absurd (omega arith)

@@ -8,7 +8,7 @@ use Rattle.places.specs.declared.place.Place.{Place}
 use Rattle.places.specs.Calls.{place_first}
 use Rattle.places.specs.Private.{link_kind}
 use Rattle.places.specs.Touches.{touch_of}
-use Rattle.effects.specs.Effects.{got_of}
+use Rattle.stepper.specs.Effects.{got_of}
 use Rattle.stepper.specs.States.{State}
 use Rattle.stepper.specs.Turns.{worker_at, spare_for, hand_at, touch_at, next_at, turned}
 use Rattle.stepper.specs.Requests.{begun_as, state_begun}
