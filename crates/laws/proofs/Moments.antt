@@ -31,7 +31,7 @@ use Rattle.laws.specs.Changes.{number_in}
 use Rattle.laws.specs.Sound.{Sound}
 use Rattle.laws.specs.Stamps.{IsStamp, Moves, Moves.same, Moves.ended, Moves.settled, Moment}
 use Rattle.laws.proofs.Touched.{Settled, settled_field_lem}
-use Rattle.laws.proofs.Runs.{get_d_replicate, turn_taken, runs_sound}
+use Rattle.laws.proofs.Runs.{get_or-replicate, turn_taken, runs_sound}
 use Rattle.laws.proofs.Stages.{Staged}
 use Rattle.laws.proofs.Places.{got_at, number_at, turn_places, begin_places}
 use Rattle.laws.proofs.Stamped.{Stamped, turn_moves, runs_stamped}
@@ -179,7 +179,7 @@ module _ (z : Sizes) (cs : List ℕ) (l : needed z ≤ length cs) where
   start = opened_state cs z
 
   runs_known : (h : List Event) (s : State) → Traces start h s → AllKnown start h s
-  runs_known [] s t = subst (AllKnown start []) t (λ w b. get_d_replicate (λ u. Known start [] start u.place) 8 w fresh nobody tt tt)
+  runs_known [] s t = subst (AllKnown start []) t (λ w b. get_or-replicate (λ u. Known start [] start u.place) 8 w fresh nobody tt tt)
   runs_known (e ∷ h) s t =
       let k = runs_sound z cs l h t.0 t.1 in
       let i = runs_stamped z cs l h t.0 t.1 in

@@ -28,10 +28,10 @@ use Rattle.laws.proofs.Keeps.{turn_sound}
 use Rattle.laws.proofs.Begins.{stepped_begin}
 
 -- each record of a table of copies is the copy, or none
-pub get_d_replicate : {A : Type 0} (P : A → Type 0) (m i : ℕ) (x d : A) → P x → P d → P (get_or (replicate m x) i d)
-get_d_replicate P zero i x d a b = b
-get_d_replicate P (suc m) zero x d a b = a
-get_d_replicate P (suc m) (suc i) x d a b = get_d_replicate P m i x d a b
+pub get_or-replicate : {A : Type 0} (P : A → Type 0) (m i : ℕ) (x d : A) → P x → P d → P (get_or (replicate m x) i d)
+get_or-replicate P zero i x d a b = b
+get_or-replicate P (suc m) zero x d a b = a
+get_or-replicate P (suc m) (suc i) x d a b = get_or-replicate P m i x d a b
 
 -- the first n cells of a cleared list are 0
 front_zero : (n i : ℕ) (cs : List ℕ) → i < n → ◌≡◌ {A = ℕ} (get_or (replicate n 0 ++ cs) i 0) 0
@@ -51,8 +51,8 @@ module _ (z : Sizes) (cs : List ℕ) (l : needed z ≤ length cs) where
   head_none h m = get_or-set_other (cleared (needed z) cs) 0 (index_of z (cell.Head h)) 1 0 (index_head z h) ∙ front_zero (needed z) (index_of z (cell.Head h)) (drop (needed z) cs) (index_lt z (cell.Head h) m)
 
   pub no_links : (v : ℕ) (k : Kind) → linked_of (worker_at start v) k ≡ 0
-  no_links v Vertex = get_d_replicate (λ u. linked_of u Vertex ≡ 0) 8 v fresh nobody refl refl
-  no_links v Edge = get_d_replicate (λ u. linked_of u Edge ≡ 0) 8 v fresh nobody refl refl
+  no_links v Vertex = get_or-replicate (λ u. linked_of u Vertex ≡ 0) 8 v fresh nobody refl refl
+  no_links v Edge = get_or-replicate (λ u. linked_of u Edge ≡ 0) 8 v fresh nobody refl refl
 
   pub open_sound : Sound start
   open_sound = record {
@@ -60,8 +60,8 @@ module _ (z : Sizes) (cs : List ℕ) (l : needed z ≤ length cs) where
     table = omega arith;
     heads = λ h m. inl (head_none h m);
     olders = λ k r x. absurd (omega (arith, x.before, no_links x.owner k));
-    places = λ w h. get_d_replicate (λ u. FitPlace start u.place) 8 w fresh nobody tt tt;
-    queues = λ w n h. get_d_replicate (λ u. get_or u.book.queue n 0 < z.keys) 8 w fresh nobody (blank_queue z.keys 0 (omega arith) n) (omega arith);
+    places = λ w h. get_or-replicate (λ u. FitPlace start u.place) 8 w fresh nobody tt tt;
+    queues = λ w n h. get_or-replicate (λ u. get_or u.book.queue n 0 < z.keys) 8 w fresh nobody (blank_queue z.keys 0 (omega arith) n) (omega arith);
   }
 
 -- a turn that is not refused is of a worker that there is

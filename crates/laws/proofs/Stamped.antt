@@ -31,7 +31,7 @@ use Rattle.laws.proofs.Owned.{linked_row, next_unlinked}
 use Rattle.laws.proofs.Stays.{turn_changes, settled_of}
 use Rattle.laws.proofs.Keeps.{New, fit, split, new_starts}
 use Rattle.laws.proofs.Begins.{was}
-use Rattle.laws.proofs.Runs.{get_d_replicate, no_links, turn_taken, runs_sound}
+use Rattle.laws.proofs.Runs.{get_or-replicate, no_links, turn_taken, runs_sound}
 use Rattle.laws.proofs.Stages.{Staged}
 use Rattle.laws.proofs.Places.{got_at, number_at, turn_places, begin_places}
 
@@ -143,7 +143,7 @@ open_stamped z cs l =
     let one : number_in (opened_state cs z) cell.Clock ≡ 1 = get_or-set_same (cleared (needed z) cs) 0 1 0 long in
     record {
       clock = (omega arith, omega arith);
-      hands = λ w b. get_d_replicate (λ u. InHand z u.place) 8 w fresh nobody tt tt;
+      hands = λ w b. get_or-replicate (λ u. InHand z u.place) 8 w fresh nobody tt tt;
       fields = λ k f r x. absurd (omega (arith, x.before, no_links z cs l x.owner k));
     }
 
