@@ -15,8 +15,8 @@ weight_bytes-++ (x ∷ xs) ys =
     ap (λ zs. x / 16777216 % 256 ∷ (x / 65536 % 256 ∷ (x / 256 % 256 ∷ (x % 256 ∷ zs)))) (weight_bytes-++ xs ys)
 
 -- the next element of a list, written behind those in front of it
-pub append-take-more : {X : Type 0} (f : List X → List ℕ) → ((xs ys : List X) → f (xs ++ ys) ≡ f xs ++ f ys) → (old mid : List ℕ) (xs : List X) (i : ℕ) (d : X) → i < length xs → mid ≡ old ++ f (take i xs) → mid ++ f (get_or xs i d ∷ []) ≡ old ++ f (take (i + 1) xs)
-append-take-more f hom old mid xs i d h e =
+pub append-take_more : {X : Type 0} (f : List X → List ℕ) → ((xs ys : List X) → f (xs ++ ys) ≡ f xs ++ f ys) → (old mid : List ℕ) (xs : List X) (i : ℕ) (d : X) → i < length xs → mid ≡ old ++ f (take i xs) → mid ++ f (get_or xs i d ∷ []) ≡ old ++ f (take (i + 1) xs)
+append-take_more f hom old mid xs i d h e =
     ap (λ zs. zs ++ f (get_or xs i d ∷ [])) e
     ∙ append_assoc old (f (take i xs)) (f (get_or xs i d ∷ []))
     ∙ ap (λ zs. old ++ zs) (sym (hom (take i xs) (get_or xs i d ∷ [])) ∙ ap f (sym (take_more xs i d h)))
@@ -44,11 +44,11 @@ pub take_front : (old new more : List ℕ) → new ≡ old ++ more → take (len
 take_front old new more e = ap (take (length old)) e ∙ take_at old more (length old) refl
 
 -- a piece behind a piece
-begun-behind : {E : Type 0} (r : Result Unit E) (old mid new first second : List ℕ) → mid ≡ old ++ first → Begun r mid new second → Begun r old new (first ++ second)
-begun-behind (Ok _) old mid new first second e h = h ∙ ap (λ zs. zs ++ second) e ∙ append_assoc old first second
-begun-behind (Err _) old mid new first second e h = take_front_through old mid new first e h
+begun_behind : {E : Type 0} (r : Result Unit E) (old mid new first second : List ℕ) → mid ≡ old ++ first → Begun r mid new second → Begun r old new (first ++ second)
+begun_behind (Ok _) old mid new first second e h = h ∙ ap (λ zs. zs ++ second) e ∙ append_assoc old first second
+begun_behind (Err _) old mid new first second e h = take_front_through old mid new first e h
 
 -- the digits of three pieces, one behind the other
-pub three-begun : {E : Type 0} (xs ys zs : List ℕ) (r : Result Unit E) (old mid late new : List ℕ) → mid ≡ old ++ hex_of xs → late ≡ mid ++ hex_of ys → Begun r late new (hex_of zs) → Begun r old new (hex_of (xs ++ (ys ++ zs)))
-three-begun xs ys zs r old mid late new e f h =
-    simp hex_of-++ (begun-behind r old mid new (hex_of xs) (hex_of ys ++ hex_of zs) e (begun-behind r mid late new (hex_of ys) (hex_of zs) f h))
+pub three_begun : {E : Type 0} (xs ys zs : List ℕ) (r : Result Unit E) (old mid late new : List ℕ) → mid ≡ old ++ hex_of xs → late ≡ mid ++ hex_of ys → Begun r late new (hex_of zs) → Begun r old new (hex_of (xs ++ (ys ++ zs)))
+three_begun xs ys zs r old mid late new e f h =
+    simp hex_of-++ (begun_behind r old mid new (hex_of xs) (hex_of ys ++ hex_of zs) e (begun_behind r mid late new (hex_of ys) (hex_of zs) f h))

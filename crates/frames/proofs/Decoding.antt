@@ -23,11 +23,11 @@ abbrev behind : List ℕ → List ℕ
 behind rest = take (length rest - 2) (drop 2 rest)
 
 pub nothing_read : (line out : List ℕ) → Read line out line 0
-nothing_read line out = prefixed-nil (bytes_of line)
+nothing_read line out = prefixed_nil (bytes_of line)
   where
-    prefixed-nil : (x : Option (List ℕ)) → x ≡ prefixed [] x
-    prefixed-nil None = refl
-    prefixed-nil (Some bs) = refl
+    prefixed_nil : (x : Option (List ℕ)) → x ≡ prefixed [] x
+    prefixed_nil None = refl
+    prefixed_nil (Some bs) = refl
 
 bytes_of-two : (rest : List ℕ) (b : Option ℕ) → 2 ≤ length rest → Next rest b → bytes_of rest ≡ joined b (bytes_of (behind rest))
 bytes_of-two [] b h e = absurd (omega arith)
@@ -36,14 +36,14 @@ bytes_of-two (x ∷ (y ∷ r)) b h e =
     ap (λ z. joined z (bytes_of r)) (sym e)
     ∙ ap (λ z. joined b (bytes_of z)) (sym (take_all _ r (omega arith)))
 
-prefixed-more : (out : List ℕ) (n b : ℕ) (x : Option (List ℕ)) → n < length out → prefixed (take n out) (joined (Some b) x) ≡ prefixed (take (n + 1) (set out n b)) x
-prefixed-more out n b None h = refl
-prefixed-more out n b (Some bs) h =
+prefixed_more : (out : List ℕ) (n b : ℕ) (x : Option (List ℕ)) → n < length out → prefixed (take n out) (joined (Some b) x) ≡ prefixed (take (n + 1) (set out n b)) x
+prefixed_more out n b None h = refl
+prefixed_more out n b (Some bs) h =
     ap Some (sym (append_assoc (take n out) (b ∷ []) bs) ∙ ap (λ z. z ++ bs) (sym (take_more_set out n b h)))
 
-pub one-more-read : (line out rest : List ℕ) (n b : ℕ) → Read line out rest n → 2 ≤ length rest → Next rest (Some b) → n < length out → Read line (set out n b) (behind rest) (n + 1)
-one-more-read line out rest n b i h e l =
-    i ∙ ap (prefixed (take n out)) (bytes_of-two rest (Some b) h e) ∙ prefixed-more out n b (bytes_of (behind rest)) l
+pub one_more_read : (line out rest : List ℕ) (n b : ℕ) → Read line out rest n → 2 ≤ length rest → Next rest (Some b) → n < length out → Read line (set out n b) (behind rest) (n + 1)
+one_more_read line out rest n b i h e l =
+    i ∙ ap (prefixed (take n out)) (bytes_of-two rest (Some b) h e) ∙ prefixed_more out n b (bytes_of (behind rest)) l
 
 -- no frame is longer than eleven bytes
 long_none : (bs : List ℕ) → 12 ≤ length bs → frame_of bs ≡ None

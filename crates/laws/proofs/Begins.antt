@@ -93,41 +93,41 @@ module _ (s : State) (b : Begin) where
     fits : (w < s.sizes.workers) × FitPlace s (place_first c)
     fits = accepted (ltb w s.sizes.workers) (is_idle (worker_at s w).place) c refl e
 
-    pub own-begun : worker_at t w ≡ begun (worker_at s w) c
-    own-begun = get_or-set_same s.workers w (begun (worker_at s w) c) nobody (omega (arith, z.table, fits.0))
+    pub own_begun : worker_at t w ≡ begun (worker_at s w) c
+    own_begun = get_or-set_same s.workers w (begun (worker_at s w) c) nobody (omega (arith, z.table, fits.0))
 
-    pub other-begun : (v : ℕ) → ¬ (v ≡ w) → worker_at t v ≡ worker_at s v
-    other-begun v m = get_or-set_other s.workers w v (begun (worker_at s w) c) nobody m
+    pub other_begun : (v : ℕ) → ¬ (v ≡ w) → worker_at t v ≡ worker_at s v
+    other_begun v m = get_or-set_other s.workers w v (begun (worker_at s w) c) nobody m
 
     count_same : (v : ℕ) (k : Kind) → linked_of (worker_at t v) k ≡ linked_of (worker_at s v) k
     count_same v k =
         ⊎_elim
-        (λ (q : v ≡ w). subst (λ u. linked_of (worker_at t u) k ≡ linked_of (worker_at s u) k) (sym q) (ap (λ u. linked_of u k) own-begun ∙ begun_count (worker_at s w) c k))
-        (λ (m : v ≡ w → ⊥). ap (λ u. linked_of u k) (other-begun v m))
+        (λ (q : v ≡ w). subst (λ u. linked_of (worker_at t u) k ≡ linked_of (worker_at s u) k) (sym q) (ap (λ u. linked_of u k) own_begun ∙ begun_count (worker_at s w) c k))
+        (λ (m : v ≡ w → ⊥). ap (λ u. linked_of u k) (other_begun v m))
         (cases_eq v w)
 
-    later-begun : Later s t
-    later-begun = record { sizes = refl; linked = λ v k. omega (arith, count_same v k); some = λ h m p. p }
+    later_begun : Later s t
+    later_begun = record { sizes = refl; linked = λ v k. omega (arith, count_same v k); some = λ h m p. p }
 
     pub was : (k : Kind) (r : ℕ) → Linked t k r → Linked s k r
     was k r l = record { owner = l.owner; place = l.place; before = subst (λ m. l.place < m) (count_same l.owner k) l.before; is = l.is }
 
-    begin-sound : Sound t
-    begin-sound = record {
+    begin_sound : Sound t
+    begin_sound = record {
       cells = z.cells;
       table = simp length-set z.table;
-      heads = λ h m. row_later s t later-begun _ _ (z.heads h m);
-      olders = λ k r l. row_later s t later-begun k _ (z.olders k r (was k r l));
+      heads = λ h m. row_later s t later_begun _ _ (z.heads h m);
+      olders = λ k r l. row_later s t later_begun k _ (z.olders k r (was k r l));
       places = λ v l. ⊎_elim
-          (λ (q : v ≡ w). subst (λ u. FitPlace t (worker_at t u).place) (sym q) (subst (λ u. FitPlace t u.place) (sym own-begun) (place_later s t later-begun (place_first c) fits.1)))
-          (λ (m : v ≡ w → ⊥). subst (λ u. FitPlace t u.place) (sym (other-begun v m)) (place_later s t later-begun (worker_at s v).place (z.places v l)))
+          (λ (q : v ≡ w). subst (λ u. FitPlace t (worker_at t u).place) (sym q) (subst (λ u. FitPlace t u.place) (sym own_begun) (place_later s t later_begun (place_first c) fits.1)))
+          (λ (m : v ≡ w → ⊥). subst (λ u. FitPlace t u.place) (sym (other_begun v m)) (place_later s t later_begun (worker_at s v).place (z.places v l)))
           (cases_eq v w);
       queues = λ v i l. ⊎_elim
-          (λ (q : v ≡ w). subst (λ u. get_or (worker_at t u).book.queue i 0 < s.sizes.keys) (sym q) (subst (λ u. get_or u.book.queue i 0 < s.sizes.keys) (sym own-begun) (z.queues w i fits.0)))
-          (λ (m : v ≡ w → ⊥). subst (λ u. get_or u.book.queue i 0 < s.sizes.keys) (sym (other-begun v m)) (z.queues v i l))
+          (λ (q : v ≡ w). subst (λ u. get_or (worker_at t u).book.queue i 0 < s.sizes.keys) (sym q) (subst (λ u. get_or u.book.queue i 0 < s.sizes.keys) (sym own_begun) (z.queues w i fits.0)))
+          (λ (m : v ≡ w → ⊥). subst (λ u. get_or u.book.queue i 0 < s.sizes.keys) (sym (other_begun v m)) (z.queues v i l))
           (cases_eq v w);
     }
 
   pub stepped_begin : Sound s → (r : Result Call Refusal) → begun_as s b ≡ r → Sound (state_begun s b.worker r)
-  stepped_begin z (Ok c) e = begin-sound z c e
+  stepped_begin z (Ok c) e = begin_sound z c e
   stepped_begin z (Err q) e = z

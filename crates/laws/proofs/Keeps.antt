@@ -216,11 +216,11 @@ module _ (s : State) (w : ℕ) (z : Sound s) (b : w < s.sizes.workers) where
 
   followed_ready : (x : Next) → next_at s w ≡ x → FitsNext s x → Ready (followed s.sizes.keys (worker_at s w) (hand_at s w) x).worker
   followed_ready (next.Out o) e f = arrived_ready (worker_at s w) o (out_later o f) (λ i. z.queues w i b)
-  followed_ready (next.Linked c r) e f = record { place = (change_later s t later c f, linked_now c r e); queue = queue-counted (change_kind c) }
+  followed_ready (next.Linked c r) e f = record { place = (change_later s t later c f, linked_now c r e); queue = queue_counted (change_kind c) }
     where
-      queue-counted : (k : Kind) (i : ℕ) → get_or (counted (worker_at s w) k).book.queue i 0 < s.sizes.keys
-      queue-counted Vertex i = z.queues w i b
-      queue-counted Edge i = z.queues w i b
+      queue_counted : (k : Kind) (i : ℕ) → get_or (counted (worker_at s w) k).book.queue i 0 < s.sizes.keys
+      queue_counted Vertex i = z.queues w i b
+      queue_counted Edge i = z.queues w i b
   followed_ready (next.Raised v n) e f = record { place = first_fits v f; queue = blank_queue s.sizes.keys n keys_some }
   followed_ready (next.Walked k r) e f =
       let g = walked_at_good s keys_some (worker_at s w).book k.survey k.job r (hand_at s w) (λ i. z.queues w i b) f in
@@ -346,7 +346,7 @@ module _ (s : State) (w : ℕ) (z : Sound s) (b : w < s.sizes.workers) where
 
   pub turn_sound : Sound t
   turn_sound = record {
-    cells = enough-turn;
+    cells = enough_turn;
     table = simp length-set z.table;
     heads = λ h m. head_sound h (number_in t (cell.Head h)) m (turn_changes s w fit (cell.Head h) m);
     olders = older_sound;
@@ -360,5 +360,5 @@ module _ (s : State) (w : ℕ) (z : Sound s) (b : w < s.sizes.workers) where
         (cases_eq v w);
   }
     where
-      enough-turn : Enough s.sizes t.cells
-      enough-turn = enough_entered s.sizes _ w (followed_at s w).entry (enough_after s.sizes s.cells (touch_at s w) z.cells)
+      enough_turn : Enough s.sizes t.cells
+      enough_turn = enough_entered s.sizes _ w (followed_at s w).entry (enough_after s.sizes s.cells (touch_at s w) z.cells)

@@ -32,7 +32,7 @@ use Rattle.laws.specs.Fits.{FitChange}
 use Rattle.laws.specs.Changes.{next_own, number_in}
 use Rattle.laws.specs.Stamps.{field_start}
 use Rattle.laws.proofs.Heads.{change_named}
-use Rattle.laws.proofs.Puts.{Enough, enough_set, put-at, swap_at}
+use Rattle.laws.proofs.Puts.{Enough, enough_set, put_at, swap_at}
 use Rattle.laws.proofs.Owned.{next_own_lem}
 use Rattle.laws.proofs.Touched.{enough_filled, fill_at}
 
@@ -58,9 +58,9 @@ bound_same z cs (change.Edge p x y) r c n u m l =
     let one : List ℕ = put z cs (cell.Source r) x in
     let two : List ℕ = put z one (cell.Target r) y in
     let l₁ : Enough z one = enough_set z cs _ x l in
-    put-at z P two (cell.Weight r) c p.weight n m (enough_set z one _ y l₁) (λ e. absurd (subst Unbound e u))
-    (put-at z P one (cell.Target r) c y n m l₁ (λ e. absurd (subst Unbound e u))
-    (put-at z P cs (cell.Source r) c x n m l (λ e. absurd (subst Unbound e u)) refl))
+    put_at z P two (cell.Weight r) c p.weight n m (enough_set z one _ y l₁) (λ e. absurd (subst Unbound e u))
+    (put_at z P one (cell.Target r) c y n m l₁ (λ e. absurd (subst Unbound e u))
+    (put_at z P cs (cell.Source r) c x n m l (λ e. absurd (subst Unbound e u)) refl))
 
 -- what a row that is filled holds
 module _ (z : Sizes) (cs : List ℕ) (d : Change) (h r : ℕ) (n : IsRow z (change_kind d) r) (l : Enough z cs) where
@@ -90,15 +90,15 @@ module _ (z : Sizes) (cs : List ℕ) (d : Change) (h r : ℕ) (n : IsRow z (chan
   older_filled =
       let P : ℕ → Type 0 = λ v. v ≡ h in
       bound_same z three d r (cell.Older k r) n tt n enough_three
-      ∙ put-at z P two (cell.Stamp k Del r) (cell.Older k r) 0 n n enough_two (λ e. let q : ◌≡◌ {A = ℕ} 0 1 = cc in absurd (omega arith))
-      (put-at z P one (cell.Stamp k Ins r) (cell.Older k r) pending n n enough_one (λ e. let q : ◌≡◌ {A = ℕ} 0 1 = cc in absurd (omega arith))
+      ∙ put_at z P two (cell.Stamp k Del r) (cell.Older k r) 0 n n enough_two (λ e. let q : ◌≡◌ {A = ℕ} 0 1 = cc in absurd (omega arith))
+      (put_at z P one (cell.Stamp k Ins r) (cell.Older k r) pending n n enough_one (λ e. let q : ◌≡◌ {A = ℕ} 0 1 = cc in absurd (omega arith))
       (put_same z cs (cell.Older k r) h n l))
 
   -- ins is pending, del is 0
   stamp_filled : (f : Field) → cell_at z (filled z cs d h r) (cell.Stamp (change_kind d) f r) ≡ field_start f
   stamp_filled Ins =
       bound_same z three d r (cell.Stamp k Ins r) n tt n enough_three
-      ∙ put-at z (λ v. v ≡ pending) two (cell.Stamp k Del r) (cell.Stamp k Ins r) 0 n n enough_two (λ e. let q : ◌≡◌ {A = ℕ} 0 1 = cc in absurd (omega arith))
+      ∙ put_at z (λ v. v ≡ pending) two (cell.Stamp k Del r) (cell.Stamp k Ins r) 0 n n enough_two (λ e. let q : ◌≡◌ {A = ℕ} 0 1 = cc in absurd (omega arith))
       (put_same z one (cell.Stamp k Ins r) pending n enough_one)
   stamp_filled Del = bound_same z three d r (cell.Stamp k Del r) n tt n enough_three ∙ put_same z two (cell.Stamp k Del r) 0 n enough_two
 

@@ -12,7 +12,7 @@ use Rattle.books.specs.declared.walked.Entry.TheVariants as entry
 use Rattle.stepper.specs.Effects.{put, zeroed, entered}
 use Rattle.stepper.specs.Turns.{cell_at}
 use Rattle.laws.specs.Changes.{OnPage}
-use Rattle.laws.proofs.Puts.{Enough, enough_set, set-at_index, put-at}
+use Rattle.laws.proofs.Puts.{Enough, enough_set, set_at_index, put_at}
 
 -- a cell of worker w's page, by its place in the page
 record PageCell (z : Sizes) (w o : ℕ) : Type 0 where
@@ -47,12 +47,12 @@ enough_zeroed : (z : Sizes) (cs : List ℕ) (i n : ℕ) → Enough z cs → Enou
 enough_zeroed z cs i zero l = l
 enough_zeroed z cs i (suc n) l = enough_set z (zeroed cs i n) (i + n) 0 (enough_zeroed z cs i n l)
 
-zeroed-at : (z : Sizes) (P : ℕ → Type 0) (cs : List ℕ) (w n : ℕ) (c : Cell) → Named z c → Enough z cs → w < z.workers → n ≤ page_size z → (OnPage w c → (y : ℕ) → P y) → P (cell_at z cs c) → P (cell_at z (zeroed cs (page_start z w) n) c)
-zeroed-at z P cs w zero c m l h k page there = there
-zeroed-at z P cs w (suc n) c m l h k page there =
-    set-at_index z P (zeroed cs (page_start z w) n) (page_start z w + n) 0 c m (enough_zeroed z cs (page_start z w) n l)
+zeroed_at : (z : Sizes) (P : ℕ → Type 0) (cs : List ℕ) (w n : ℕ) (c : Cell) → Named z c → Enough z cs → w < z.workers → n ≤ page_size z → (OnPage w c → (y : ℕ) → P y) → P (cell_at z cs c) → P (cell_at z (zeroed cs (page_start z w) n) c)
+zeroed_at z P cs w zero c m l h k page there = there
+zeroed_at z P cs w (suc n) c m l h k page there =
+    set_at_index z P (zeroed cs (page_start z w) n) (page_start z w + n) 0 c m (enough_zeroed z cs (page_start z w) n l)
     (λ e. page (on_page z w n c h (omega arith) m e) 0)
-    (zeroed-at z P cs w n c m l h (omega arith) page there)
+    (zeroed_at z P cs w n c m l h (omega arith) page there)
 
 -- an entry whose keys are keys
 abbrev pub FitEntry : Sizes → Entry → Type 0
@@ -64,15 +64,15 @@ FitEntry z (entry.Join i j x r) = (i < z.keys) × (j < z.keys)
 
 pub entered_at : (z : Sizes) (P : ℕ → Type 0) (cs : List ℕ) (w : ℕ) (e : Entry) (c : Cell) → Named z c → Enough z cs → w < z.workers → FitEntry z e → (OnPage w c → (y : ℕ) → P y) → P (cell_at z cs c) → P (cell_at z (entered z w cs e) c)
 entered_at z P cs w entry.Nothing c m l h f page there = there
-entered_at z P cs w entry.Clear c m l h f page there = zeroed-at z P cs w (page_size z) c m l h (omega arith) page there
+entered_at z P cs w entry.Clear c m l h f page there = zeroed_at z P cs w (page_size z) c m l h (omega arith) page there
 entered_at z P cs w (entry.Key k r) c m l h f page there =
-    put-at z P cs (cell.PageKey w k) c r m (h, f) l (λ e. page (subst (OnPage w) (sym e) refl) r) there
+    put_at z P cs (cell.PageKey w k) c r m (h, f) l (λ e. page (subst (OnPage w) (sym e) refl) r) there
 entered_at z P cs w (entry.Pair i j x) c m l h f page there =
-    put-at z P cs (cell.PagePair w i j) c x m (h, f.0, f.1) l (λ e. page (subst (OnPage w) (sym e) refl) x) there
+    put_at z P cs (cell.PagePair w i j) c x m (h, f.0, f.1) l (λ e. page (subst (OnPage w) (sym e) refl) x) there
 entered_at z P cs w (entry.Join i j x r) c m l h f page there =
-    put-at z P (put z cs (cell.PagePair w i j) x) (cell.PageKey w j) c r m (h, f.1) (enough_set z cs _ x l)
+    put_at z P (put z cs (cell.PagePair w i j) x) (cell.PageKey w j) c r m (h, f.1) (enough_set z cs _ x l)
     (λ e. page (subst (OnPage w) (sym e) refl) r)
-    (put-at z P cs (cell.PagePair w i j) c x m (h, f.0, f.1) l (λ e. page (subst (OnPage w) (sym e) refl) x) there)
+    (put_at z P cs (cell.PagePair w i j) c x m (h, f.0, f.1) l (λ e. page (subst (OnPage w) (sym e) refl) x) there)
 
 pub enough_entered : (z : Sizes) (cs : List ℕ) (w : ℕ) (e : Entry) → Enough z cs → Enough z (entered z w cs e)
 enough_entered z cs w entry.Nothing l = l

@@ -14,7 +14,7 @@ use Rattle.stepper.specs.Turns.{worker_at, spare_for, hand_at, touch_at, next_at
 use Rattle.stepper.specs.Requests.{begun_as, state_begun}
 use Rattle.laws.specs.Sound.{Sound}
 use Rattle.laws.proofs.Keeps.{own_record, other_record}
-use Rattle.laws.proofs.Begins.{own-begun, other-begun}
+use Rattle.laws.proofs.Begins.{own_begun, other_begun}
 use Rattle.laws.proofs.Stages.{Staged, next_staged, followed_staged}
 
 abbrev pub got_at : State → ℕ → Got
@@ -39,6 +39,6 @@ turn_places s w z b P own others v l =
 pub begin_places : (s : State) (b : Begin) → Sound s → (c : Call) → begun_as s b ≡ Ok c → (P : Place → Type 0) → P (place_first c) → ((v : ℕ) → v < s.sizes.workers → P (worker_at s v).place) → (v : ℕ) → v < s.sizes.workers → P (worker_at (state_begun s b.worker (Ok c)) v).place
 begin_places s b z c e P own others v l =
     ⊎_elim
-    (λ (q : v ≡ b.worker). subst (λ u. P (worker_at (state_begun s b.worker (Ok c)) u).place) (sym q) (subst (λ u. P u.place) (sym (own-begun s b z c e)) own))
-    (λ (n : v ≡ b.worker → ⊥). subst (λ u. P u.place) (sym (other-begun s b z c e v n)) (others v l))
+    (λ (q : v ≡ b.worker). subst (λ u. P (worker_at (state_begun s b.worker (Ok c)) u).place) (sym q) (subst (λ u. P u.place) (sym (own_begun s b z c e)) own))
+    (λ (n : v ≡ b.worker → ⊥). subst (λ u. P u.place) (sym (other_begun s b z c e v n)) (others v l))
     (cases_eq v b.worker)

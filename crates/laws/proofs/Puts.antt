@@ -19,8 +19,8 @@ pub enough_set : (z : Sizes) (cs : List ℕ) (i v : ℕ) → Enough z cs → Eno
 enough_set z cs i v l = simp length-set (omega arith)
 
 -- a cell set by its index
-pub set-at_index : (z : Sizes) (P : ℕ → Type 0) (cs : List ℕ) (i v : ℕ) (c : Cell) → Named z c → Enough z cs → (index_of z c ≡ i → P v) → P (cell_at z cs c) → P (cell_at z (set cs i v) c)
-set-at_index z P cs i v c n l here there =
+pub set_at_index : (z : Sizes) (P : ℕ → Type 0) (cs : List ℕ) (i v : ℕ) (c : Cell) → Named z c → Enough z cs → (index_of z c ≡ i → P v) → P (cell_at z cs c) → P (cell_at z (set cs i v) c)
+set_at_index z P cs i v c n l here there =
     ⊎_elim
     (λ (e : index_of z c ≡ i).
     let in_list : i < length cs = omega (arith, index_lt z c n) in
@@ -29,20 +29,20 @@ set-at_index z P cs i v c n l here there =
     (λ (ne : index_of z c ≡ i → ⊥). subst P (sym (get_or-set_other cs i (index_of z c) v 0 ne)) there)
     (cases_eq (index_of z c) i)
 
-pub put-at : (z : Sizes) (P : ℕ → Type 0) (cs : List ℕ) (d c : Cell) (v : ℕ) → Named z c → Named z d → Enough z cs → (c ≡ d → P v) → P (cell_at z cs c) → P (cell_at z (put z cs d v) c)
-put-at z P cs d c v n m l here there = set-at_index z P cs (index_of z d) v c n l (λ e. here (same_name z c d n m e)) there
+pub put_at : (z : Sizes) (P : ℕ → Type 0) (cs : List ℕ) (d c : Cell) (v : ℕ) → Named z c → Named z d → Enough z cs → (c ≡ d → P v) → P (cell_at z cs c) → P (cell_at z (put z cs d v) c)
+put_at z P cs d c v n m l here there = set_at_index z P cs (index_of z d) v c n l (λ e. here (same_name z c d n m e)) there
 
 -- a swap says yes where the cell holds the expected number
 pub swap_at : (z : Sizes) (P : ℕ → Type 0) (cs : List ℕ) (d c : Cell) (old new : ℕ) → Named z c → Named z d → Enough z cs → (c ≡ d → cell_at z cs d ≡ old → P new) → P (cell_at z cs c) → P (cell_at z (swapped cs (index_of z d) old new) c)
 swap_at z P cs d c old new n m l here there = go (eqb (cell_at z cs d) old) refl
   where
     go : (b : Bool) → eqb (cell_at z cs d) old ≡ b → P (cell_at z (cond b (set cs (index_of z d) new) cs) c)
-    go true e = put-at z P cs d c new n m l (λ f. here f (eqb-true (cell_at z cs d) old e)) there
+    go true e = put_at z P cs d c new n m l (λ f. here f (eqb-true (cell_at z cs d) old e)) there
     go false e = there
 
 pub raise_at : (z : Sizes) (P : ℕ → Type 0) (cs : List ℕ) (d c : Cell) (limit : ℕ) → Named z c → Named z d → Enough z cs → (c ≡ d → cell_at z cs d < limit → P (cell_at z cs d + 1)) → P (cell_at z cs c) → P (cell_at z (raised cs (index_of z d) limit) c)
 raise_at z P cs d c limit n m l here there = go (ltb (cell_at z cs d) limit) refl
   where
     go : (b : Bool) → ltb (cell_at z cs d) limit ≡ b → P (cell_at z (cond b (set cs (index_of z d) (cell_at z cs d + 1)) cs) c)
-    go true e = put-at z P cs d c (cell_at z cs d + 1) n m l (λ f. here f (ltb-true (cell_at z cs d) limit e)) there
+    go true e = put_at z P cs d c (cell_at z cs d + 1) n m l (λ f. here f (ltb-true (cell_at z cs d) limit e)) there
     go false e = there

@@ -92,20 +92,20 @@ module _ (s : State) (w : ℕ) (f : Fit s w) where
 
   -- a cell that a turn has no way to change
   pub record Safe (c : Cell) : Type 0 where
-    pub no-clock : c ≡ cell.Clock → ⊥
-    pub no-head : (h : Head) → c ≡ cell.Head h → ⊥
+    pub no_clock : c ≡ cell.Clock → ⊥
+    pub no_head : (h : Head) → c ≡ cell.Head h → ⊥
     pub no_field : (k : Kind) (g : Field) (r : ℕ) → c ≡ cell.Stamp k g r → Linked s k r → ⊥
-    pub no-fill : (k : Kind) → 0 < next_own s w k → OfRow k (next_own s w k) c → ⊥
-    pub no-page : OnPage w c → ⊥
+    pub no_fill : (k : Kind) → 0 < next_own s w k → OfRow k (next_own s w k) c → ⊥
+    pub no_page : OnPage w c → ⊥
 
   safe_stays : (c : Cell) (x y : ℕ) → Safe c → Changes s w c x y → y ≡ x
   safe_stays c x y n (keeps e) = e
-  safe_stays c x y n (ticks v e i b q) = absurd (n.no-clock i)
-  safe_stays c x y n (links d e i p q) = absurd (n.no-head (change_head d) i)
+  safe_stays c x y n (ticks v e i b q) = absurd (n.no_clock i)
+  safe_stays c x y n (links d e i p q) = absurd (n.no_head (change_head d) i)
   safe_stays c x y n (stamps p e i q) = let t = settled_of p y e in absurd (n.no_field t.kind t.field t.row (i ∙ t.is) t.linked)
   safe_stays c x y n (ends d r e i a b) = absurd (n.no_field (change_kind d) Del r i (ended_of d r e))
-  safe_stays c x y n (fills k p o) = absurd (n.no-fill k p o)
-  safe_stays c x y n (writes o) = absurd (n.no-page o)
+  safe_stays c x y n (fills k p o) = absurd (n.no_fill k p o)
+  safe_stays c x y n (writes o) = absurd (n.no_page o)
 
   pub stays : (c : Cell) → Named s.sizes c → Safe c → Stays s w c
   stays c m n = safe_stays c (number_in s c) (number_in (turned s w) c) n (turn_changes s w f c m)
@@ -122,11 +122,11 @@ module _ (s : State) (w : ℕ) (f : Fit s w) where
   -- another worker's page
   page_safe : (v : ℕ) (c : Cell) → OnPage v c → ¬ (v ≡ w) → Safe c
   page_safe v c o n = record {
-    no-clock = λ e. subst (OnPage v) e o;
-    no-head = λ h e. subst (OnPage v) e o;
+    no_clock = λ e. subst (OnPage v) e o;
+    no_head = λ h e. subst (OnPage v) e o;
     no_field = λ k g r e l. subst (OnPage v) e o;
-    no-fill = λ k p a. row_no_page k (next_own s w k) v c a o;
-    no-page = λ a. n (same_page v w c o a);
+    no_fill = λ k p a. row_no_page k (next_own s w k) v c a o;
+    no_page = λ a. n (same_page v w c o a);
   }
 
   -- a row of another worker that is not linked
@@ -141,21 +141,21 @@ module _ (s : State) (w : ℕ) (f : Fit s w) where
 
   row_safe : (v : ℕ) (k : Kind) (r : ℕ) (c : Cell) → OfRow k r c → Owns s.sizes k v r → ¬ (v ≡ w) → ¬ (Linked s k r) → Safe c
   row_safe v k r c o a n u = record {
-    no-clock = λ e. subst (OfRow k r) e o;
-    no-head = λ h e. subst (OfRow k r) e o;
+    no_clock = λ e. subst (OfRow k r) e o;
+    no_head = λ h e. subst (OfRow k r) e o;
     no_field = λ l g q e i. u (linked_from k l r q (same_row k l r q c o (subst (OfRow l q) (sym e) (refl, refl))) i);
-    no-fill = λ l p b. own_fill v k l r c o a n p b;
-    no-page = λ b. row_no_page k r w c o b;
+    no_fill = λ l p b. own_fill v k l r c o a n p b;
+    no_page = λ b. row_no_page k r w c o b;
   }
 
   -- a cell of a linked row that holds no stamp
   fixed_safe : (k : Kind) (r : ℕ) (c : Cell) → OfRow k r c → NoStamp c → Linked s k r → Safe c
   fixed_safe k r c o n i = record {
-    no-clock = λ e. subst (OfRow k r) e o;
-    no-head = λ h e. subst (OfRow k r) e o;
+    no_clock = λ e. subst (OfRow k r) e o;
+    no_head = λ h e. subst (OfRow k r) e o;
     no_field = λ l g q e j. subst NoStamp e n;
-    no-fill = λ l p b. let e = same_row k l r (next_own s w l) c o b in next_unlinked s w l p (linked_from l k (next_own s w l) r (sym e.0, sym e.1) i);
-    no-page = λ b. row_no_page k r w c o b;
+    no_fill = λ l p b. let e = same_row k l r (next_own s w l) c o b in next_unlinked s w l p (linked_from l k (next_own s w l) r (sym e.0, sym e.1) i);
+    no_page = λ b. row_no_page k r w c o b;
   }
 
 pub turn_laws : TurnsKeepLaws

@@ -27,7 +27,7 @@ use Rattle.stepper.specs.Turns.{worker_at, cell_at, spare_for}
 use Rattle.laws.specs.Fits.{Linked, FitChange, FitPurpose, FitPlace}
 use Rattle.laws.specs.Changes.{OfRow, next_own, number_in, Changes, Changes.keeps, Changes.ticks, Changes.links, Changes.stamps, Changes.ends, Changes.fills}
 use Rattle.laws.proofs.Heads.{change_named}
-use Rattle.laws.proofs.Puts.{Enough, enough_set, put-at, swap_at, raise_at}
+use Rattle.laws.proofs.Puts.{Enough, enough_set, put_at, swap_at, raise_at}
 use Rattle.laws.proofs.Owned.{linked_row, next_own_lem}
 
 -- the field that is settled is of a linked row
@@ -60,9 +60,9 @@ bound_at z P cs (change.Edge p x y) r c m n l row there =
     let one : List ℕ = put z cs (cell.Source r) x in
     let two : List ℕ = put z one (cell.Target r) y in
     let l₁ : Enough z one = enough_set z cs _ x l in
-    put-at z P two (cell.Weight r) c p.weight m n (enough_set z one _ y l₁) (λ e. row (subst (OfRow Edge r) (sym e) (refl, refl)) _)
-    (put-at z P one (cell.Target r) c y m n l₁ (λ e. row (subst (OfRow Edge r) (sym e) (refl, refl)) _)
-    (put-at z P cs (cell.Source r) c x m n l (λ e. row (subst (OfRow Edge r) (sym e) (refl, refl)) _) there))
+    put_at z P two (cell.Weight r) c p.weight m n (enough_set z one _ y l₁) (λ e. row (subst (OfRow Edge r) (sym e) (refl, refl)) _)
+    (put_at z P one (cell.Target r) c y m n l₁ (λ e. row (subst (OfRow Edge r) (sym e) (refl, refl)) _)
+    (put_at z P cs (cell.Source r) c x m n l (λ e. row (subst (OfRow Edge r) (sym e) (refl, refl)) _) there))
 
 pub enough_bound : (z : Sizes) (cs : List ℕ) (d : Change) (r : ℕ) → Enough z cs → Enough z (bound z cs d r)
 enough_bound z cs (change.Vertex i) r l = l
@@ -76,9 +76,9 @@ fill_at z P cs d h r c m n l row there =
     let l₁ : Enough z one = enough_set z cs _ h l in
     let l₂ : Enough z two = enough_set z one _ pending l₁ in
     bound_at z P (put z two (cell.Stamp k Del r) 0) d r c m n (enough_set z two _ 0 l₂) row
-    (put-at z P two (cell.Stamp k Del r) c 0 m n l₂ (λ e. row (subst (OfRow k r) (sym e) (refl, refl)) _)
-    (put-at z P one (cell.Stamp k Ins r) c pending m n l₁ (λ e. row (subst (OfRow k r) (sym e) (refl, refl)) _)
-    (put-at z P cs (cell.Older k r) c h m n l (λ e. row (subst (OfRow k r) (sym e) (refl, refl)) _) there)))
+    (put_at z P two (cell.Stamp k Del r) c 0 m n l₂ (λ e. row (subst (OfRow k r) (sym e) (refl, refl)) _)
+    (put_at z P one (cell.Stamp k Ins r) c pending m n l₁ (λ e. row (subst (OfRow k r) (sym e) (refl, refl)) _)
+    (put_at z P cs (cell.Older k r) c h m n l (λ e. row (subst (OfRow k r) (sym e) (refl, refl)) _) there)))
 
 pub enough_filled : (z : Sizes) (cs : List ℕ) (d : Change) (h r : ℕ) → Enough z cs → Enough z (filled z cs d h r)
 enough_filled z cs d h r l = enough_bound z _ d r (enough_set z _ _ 0 (enough_set z _ _ pending (enough_set z cs _ h l)))

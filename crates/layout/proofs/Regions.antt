@@ -94,13 +94,13 @@ offset_lt s (cell.PagePair w i j) h =
 suc_zero : (r : ℕ) → suc r + zero ≡ suc r
 suc_zero r = omega arith
 
-suc-suc : (r d : ℕ) → suc r + suc d ≡ suc (suc r + d)
-suc-suc r d = omega arith
+suc_suc : (r d : ℕ) → suc r + suc d ≡ suc (suc r + d)
+suc_suc r d = omega arith
 
 -- a region ends before each later one starts
 start_later : (s : Sizes) (r d : ℕ) → start s r + size s r ≤ start s (suc r + d)
 start_later s r zero = omega (arith, ap (start s) (suc_zero r))
-start_later s r (suc d) = omega (arith, start_later s r d, ap (start s) (suc-suc r d))
+start_later s r (suc d) = omega (arith, start_later s r d, ap (start s) (suc_suc r d))
 
 pub same_region : (s : Sizes) (r o q p : ℕ) → o < size s r → p < size s q → start s r + o ≡ start s q + p → r ≡ q
 same_region s r o q p h k e =

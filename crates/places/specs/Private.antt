@@ -73,7 +73,7 @@ edge_of (purpose.AgainSource o p s d f) = 0
 edge_of (purpose.AgainTarget o p s d f) = 0
 edge_of (purpose.CompareSource p s d f e x) = 0
 edge_of (purpose.CompareTarget p s d f e x) = 0
-edge_of (purpose.WalkIns k r) = job_edge k.job 0
+edge_of (purpose.WalkIns k r) = job_edge (k.job) 0
 edge_of (purpose.WalkDel k r) = job_edge k.job r
 
 -- the edge row whose source, target or weight may be wanted, or 0
@@ -85,5 +85,5 @@ edge_row (place.Link c h) = 0
 edge_row (place.End c r) = 0
 edge_row (place.LostHead i) = 0
 edge_row (place.Raise v) = 0
-edge_row (place.WalkHead k) = job_edge k.job 0
-edge_row (place.WalkOlder k r) = job_edge k.job 0
+edge_row (place.WalkHead k) = job_edge (k.job) 0
+edge_row (place.WalkOlder k r) = job_edge (k.job) 0

@@ -43,11 +43,11 @@ refused_byte A cells page n keys s area r u same counted some refuses is =
     let byte : List ℕ → ℕ → ℕ = λ c k. byte_of (unanswered k (shown c k) s area) in
     let P : List ℕ → ℕ → Type 0 = λ c k. r ≡ cond (eqb k 0) (refusal_code SizeOutside) (byte c k) in
     let at_page : r ≡ byte page keys = is ∙ sym (ap byte_of (why_refused A u (unanswered keys (shown page keys) s area) refuses)) in
-    let there : P page keys = at_page ∙ not-0 keys (refusal_code SizeOutside) (byte page keys) some in
+    let there : P page keys = at_page ∙ not_0 keys (refusal_code SizeOutside) (byte page keys) some in
     subst (P cells) counted (subst (λ c. P c keys) same there)
   where
-    not-0 : (k x y : ℕ) → (k ≡ 0 → ⊥) → y ≡ cond (eqb k 0) x y
-    not-0 k x y h = grind (arith, nat_tests)
+    not_0 : (k x y : ℕ) → (k ≡ 0 → ⊥) → y ≡ cond (eqb k 0) x y
+    not_0 k x y h = grind (arith, nat_tests)
 
 -- and what it leaves
 pub refused_list : {cells : List ℕ} {n s : ℕ} (old new : List ℕ) {before after : ℕ} (r : ℕ) (u : Unanswered) → r ≡ unanswered_code u → new ≡ old → after ≡ before →

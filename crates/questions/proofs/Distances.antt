@@ -1,4 +1,4 @@
--- Along a breadth_first list the distances from the start never fall.
+-- Along a breadth-first list the distances from the start never fall.
 use Rattle.std.proofs.Common.{◌≡◌, ℕ, ◌<◌, ◌≤◌, Some, sym, refl, ap, ◌∙◌, subst, inl, inr, arith}
 use Rattle.std.proofs.lemmas.Bool.{cases_eq, cases_lt}
 use Rattle.questions.specs.Graph.{Graph, Walk, here, on}
@@ -29,13 +29,13 @@ module _ {g : Graph} {s : ℕ} {xs : ℕ → ℕ} {c : ℕ} (b : BreadthFirst g 
   no_longer (on {k} {j} w walk f) q e l p h = elim (cases_eq p 0) [
     | inl z ↦ (let (v, n) = to_first p z in (v, omega arith))
     | inr z ↦ (
-        let (r, in_List, at-r) = b.all k walk in
+        let (r, in_list, at-r) = b.all k walk in
         let over : g.edge (xs r) (xs q) ≡ Some w = cc in
         let early : b.from p ≤ r = elim (cases_lt r (b.from q)) [
           | inl a ↦ absurd ((b.earliest q (omega arith) l).1.1 r a (w, over))
           | inr a ↦ omega (arith, from_rises p q (omega arith) h l)
         ] in
-        let (v, n) = no_longer walk r at-r in_List (b.from p) early in
+        let (v, n) = no_longer walk r at-r in_list (b.from p) early in
         let (x, last) = (b.earliest p (omega arith) (omega arith)).1.0 in
         (on x v last, omega arith))
   ]

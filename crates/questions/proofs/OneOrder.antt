@@ -1,4 +1,4 @@
--- There is one breadth_first list.
+-- There is one breadth-first list.
 use Rattle.std.proofs.Common.{◌≡◌, ℕ, zero, suc, ◌<◌, ◌≤◌, sym, ap, ◌∙◌, inl, inr, arith}
 use Rattle.std.proofs.lemmas.Bool.{cases_eq, cases_lt}
 use Rattle.questions.specs.Graph.{Graph}

@@ -86,8 +86,8 @@ module _ {m : Scale} (law : Lawful m) (g : Graph) {n : ℕ} (inside : Inside g n
     more : (j : ℕ) → L j ≡ true → K j ≡ true
     more j h = let e = lists j in grind (arith, nat_tests)
 
-    now-listed : K k ≡ true
-    now-listed = let e = lists k in grind (arith, nat_tests)
+    now_listed : K k ≡ true
+    now_listed = let e = lists k in grind (arith, nat_tests)
 
     which : (j : ℕ) → K j ≡ true → (L j ≡ true) ⊎ (j ≡ k)
     which j h = let e = lists j in elim (cases_eq j k) [ inl z ↦ inr z | inr z ↦ inl (grind (arith, nat_tests)) ]
@@ -136,7 +136,7 @@ module _ {m : Scale} (law : Lawful m) (g : Graph) {n : ℕ} (inside : Inside g n
         | kept w o e z b ↦ keep j l e
         | taken w o e c ↦ elim (q.sound k picked.0) [
           | inl b ↦ absurd (let z = ap (λ (x : Entry). x.mark) b in omega (arith, picked.1.0))
-          | inr (a, p, i, v) ↦ inr (cc, on w p o, (now-listed, within_more L K more p i), (let t = ap (λ x. m.extend x w) v in cc))
+          | inr (a, p, i, v) ↦ inr (cc, on w p o, (now_listed, within_more L K more p i), (let t = ap (λ x. m.extend x w) v in cc))
         ]
       ];
       start = (let t = improves s q.start.0 q.start.1 in (q.start.0, t.0, law.transitive _ _ _ q.start.2 t.1));
@@ -183,7 +183,7 @@ module _ {m : Scale} (law : Lawful m) (g : Graph) {n : ℕ} (inside : Inside g n
   pub begun : {L : ℕ → Bool} {d : ℕ → Entry} → s < n → ((k : ℕ) → L k ≡ false) → ((k : ℕ) → k < n → (k ≡ s → ⊥) → d k ≡ blank) → d s ≡ reached m.first → Searched m g n s L d
   begun {L} {d} l none blanks at-s = record {
     sound = λ k h. elim (cases_eq k s) [
-      | inl e ↦ inr (here-at k e)
+      | inl e ↦ inr (here_at k e)
       | inr e ↦ inl (blanks k h e)
     ];
     start = (l, cc, (let t = itself law m.first in cc));
@@ -192,7 +192,7 @@ module _ {m : Scale} (law : Lawful m) (g : Graph) {n : ℕ} (inside : Inside g n
     ordered = λ i j h r o. absurd (let e = none i in grind arith);
   }
     where
-      here-at : (k : ℕ) → k ≡ s → ((d k).mark ≡ 1) × (p : Walk g s k) × Within L p × (along m p ≡ (d k).value)
-      here-at k e =
+      here_at : (k : ℕ) → k ≡ s → ((d k).mark ≡ 1) × (p : Walk g s k) × Within L p × (along m p ≡ (d k).value)
+      here_at k e =
           let P : ℕ → Type 0 = λ (j : ℕ). ((d j).mark ≡ 1) × (p : Walk g s j) × Within L p × (along m p ≡ (d j).value) in
           subst P (sym e) (cc, here, tt, cc)

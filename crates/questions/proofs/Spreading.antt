@@ -88,9 +88,9 @@ module _ (g : Graph) {n : ℕ} (inside : Inside g n) {s : ℕ} where
   join {L} {xs} {h} {i} {c} l q e new K lists ys same at_c = record {
     start = (omega arith, same 0 q.start.0 ∙ q.start.1);
     keys = λ p a. elim (cases_eq p c) [
-      | inl z ↦ (let y : ys p ≡ i = cc in (omega (arith, i-small), walk_at (ys p) y, (let t = lists i in grind (arith, nat_tests))))
+      | inl z ↦ (let y : ys p ≡ i = cc in (omega (arith, i_small), walk_at (ys p) y, (let t = lists i in grind (arith, nat_tests))))
       | inr z ↦ (let y = same p (omega arith) in let t = q.keys p (omega arith) in
-          (omega arith, walk-to (ys p) p y (omega arith), more (ys p) (let u = t.2 in cc)))
+          (omega arith, walk_to (ys p) p y (omega arith), more (ys p) (let u = t.2 in cc)))
     ];
     once = λ p r a b z. elim (cases_eq r c) [
       | inl y ↦ (let t = (q.keys p (omega arith)).2 in let u = same p (omega arith) in let v : L i ≡ true = cc in grind arith)
@@ -100,7 +100,7 @@ module _ (g : Graph) {n : ℕ} (inside : Inside g n) {s : ℕ} where
       | inl z ↦ (c, omega arith, cc)
       | inr z ↦ (let (p, b, t) = q.places k (let u = lists k in grind (arith, nat_tests)) in (p, omega arith, (let u = same p b in cc)))
     ];
-    counted = (let t = unlisted_less L i K lists new n i-small in omega (arith, q.counted));
+    counted = (let t = unlisted_less L i K lists new n i_small in omega (arith, q.counted));
     served = λ p j a r. more j (q.served p j a (r.0, (let t = r.1 in let u = same p (omega arith) in cc)));
     serving = λ j a r. elim (cases_eq j i) [
       | inl z ↦ (let t = lists i in grind (arith, nat_tests))
@@ -125,8 +125,8 @@ module _ (g : Graph) {n : ℕ} (inside : Inside g n) {s : ℕ} where
     ];
   }
     where
-      i-small : i < n
-      i-small = (inside (xs h) i e.0 e.1).1
+      i_small : i < n
+      i_small = (inside (xs h) i e.0 e.1).1
 
       more : (j : ℕ) → L j ≡ true → K j ≡ true
       more j a = let t = lists j in grind (arith, nat_tests)
@@ -134,8 +134,8 @@ module _ (g : Graph) {n : ℕ} (inside : Inside g n) {s : ℕ} where
       walk_at : (k : ℕ) → k ≡ i → Walk g s k
       walk_at k z = subst (Walk g s) (sym z) (on e.0 (q.keys h l).1 e.1)
 
-      walk-to : (k p : ℕ) → k ≡ xs p → p < c → Walk g s k
-      walk-to k p z b = subst (Walk g s) (sym z) (q.keys p b).1
+      walk_to : (k p : ℕ) → k ≡ xs p → p < c → Walk g s k
+      walk_to k p z b = subst (Walk g s) (sym z) (q.keys p b).1
 
       at_new : (p : ℕ) → p ≡ c → cond (eqb p c) h (q.from p) ≡ h
       at_new p z = grind (arith, nat_tests)

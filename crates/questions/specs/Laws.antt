@@ -10,7 +10,7 @@ use Rattle.questions.specs.Order.{BreadthFirst}
 abbrev pub EntryFixed : Scale → Type 0
 EntryFixed m = (g : Graph) (s k : ℕ) (x y : Entry) → Entered m g s k x → Entered m g s k y → x ≡ y
 
--- there is one breadth_first list
+-- there is one breadth-first list
 abbrev pub OrderFixed : Type 0
 OrderFixed = (g : Graph) (s : ℕ) (xs ys : ℕ → ℕ) (c d : ℕ) → BreadthFirst g s xs c → BreadthFirst g s ys d → (c ≡ d) × ((p : ℕ) → p < c → xs p ≡ ys p)
 
@@ -25,7 +25,7 @@ pub record Distance (g : Graph) (s k d : ℕ) : Type 0 where
   pub count : edges walk ≡ d
   pub least : (p : Walk g s k) → d ≤ edges p
 
--- along a breadth_first list the distances from the start never fall
+-- along a breadth-first list the distances from the start never fall
 abbrev pub DistancesNeverFall : Type 0
 DistancesNeverFall =
     (g : Graph) (s : ℕ) (xs : ℕ → ℕ) (c : ℕ) → BreadthFirst g s xs c →

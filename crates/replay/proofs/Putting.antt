@@ -19,12 +19,12 @@ begun_none old digits at = record {
 }
 
 -- one byte more, at the end of what was written
-one-more_front : (old new line : List ℕ) (at k y : ℕ) → k < length new → take k new ≡ take at old ++ line → take (k + 1) (set new k y) ≡ take at old ++ (line ++ (y ∷ []))
-one-more_front old new line at k y h e =
+one_more_front : (old new line : List ℕ) (at k y : ℕ) → k < length new → take k new ≡ take at old ++ line → take (k + 1) (set new k y) ≡ take at old ++ (line ++ (y ∷ []))
+one_more_front old new line at k y h e =
     take_more_set new k y h ∙ ap (λ zs. zs ++ (y ∷ [])) e ∙ append_assoc (take at old) line (y ∷ [])
 
-one-more-behind : (old new : List ℕ) (k y : ℕ) → drop k new ≡ drop k old → drop (k + 1) (set new k y) ≡ drop (k + 1) old
-one-more-behind old new k y e =
+one_more_behind : (old new : List ℕ) (k y : ℕ) → drop k new ≡ drop k old → drop (k + 1) (set new k y) ≡ drop (k + 1) old
+one_more_behind old new k y e =
     drop-set-lt (k + 1) new k y (omega arith) ∙ sym (drop-drop 1 k new) ∙ ap (drop 1) e ∙ drop-drop 1 k old
 
 pub begun_more : (old new digits : List ℕ) (at i : ℕ) → i < length digits → at + i < length new → Begun old new digits at i → Begun old (set new (at + i) (get_or digits i 0)) digits at (i + 1)
@@ -32,8 +32,8 @@ begun_more old new digits at i h l b =
     let k : at + (i + 1) ≡ at + i + 1 = omega arith in
     let y : ℕ = get_or digits i 0 in
     record {
-      front = ap (λ z. take z (set new (at + i) y)) k ∙ one-more_front old new (take i digits) at (at + i) y l b.front ∙ ap (λ zs. take at old ++ zs) (sym (take_more digits i 0 h));
-      behind = ap (λ z. drop z (set new (at + i) y)) k ∙ one-more-behind old new (at + i) y b.behind ∙ ap (λ z. drop z old) (sym k);
+      front = ap (λ z. take z (set new (at + i) y)) k ∙ one_more_front old new (take i digits) at (at + i) y l b.front ∙ ap (λ zs. take at old ++ zs) (sym (take_more digits i 0 h));
+      behind = ap (λ z. drop z (set new (at + i) y)) k ∙ one_more_behind old new (at + i) y b.behind ∙ ap (λ z. drop z old) (sym k);
       size = length-set new (at + i) y ∙ b.size;
     }
 
@@ -41,8 +41,8 @@ pub begun_all : (old new digits : List ℕ) (at n : ℕ) (r : Reply) → take n 
 begun_all old new digits at n r e l b = record {
   grows = omega arith;
   within = omega (arith, length-set new (at + n) 10);
-  front = one-more_front old new (take n digits) at (at + n) 10 l b.front ∙ ap (λ zs. take at old ++ (zs ++ (10 ∷ []))) e;
-  behind = one-more-behind old new (at + n) 10 b.behind;
+  front = one_more_front old new (take n digits) at (at + n) 10 l b.front ∙ ap (λ zs. take at old ++ (zs ++ (10 ∷ []))) e;
+  behind = one_more_behind old new (at + n) 10 b.behind;
 }
 
 pub fed_length : (digits : List ℕ) (n : ℕ) (r : Reply) → take n digits ≡ reply_line r → n ≤ length digits → length (fed_line r) ≡ n + 1

@@ -29,8 +29,8 @@ drop_further xs ys k m h e =
     let f : k + (m - k) ≡ m = omega arith in
     ap (λ i. drop i xs) (sym f) ∙ sym (drop-drop (m - k) k xs) ∙ ap (drop (m - k)) e ∙ drop-drop (m - k) k ys ∙ ap (λ i. drop i ys) f
 
-one-more_to : (s e f : Session) (t rest out line : List ℕ) (r : Reply) → line ≡ out ++ fed_line r → Replayed s t rest out e → 1 ≤ length rest → LineReplies e rest r f → Replayed s t (behind_line rest) line f
-one-more_to s e f t rest out line r q z h a =
+one_more_to : (s e f : Session) (t rest out line : List ℕ) (r : Reply) → line ≡ out ++ fed_line r → Replayed s t rest out e → 1 ≤ length rest → LineReplies e rest r f → Replayed s t (behind_line rest) line f
+one_more_to s e f t rest out line r q z h a =
     let P : List ℕ → Type 0 = λ zs. Replayed s t (behind_line rest) zs f in
     subst P (sym q) (one_more rest out e f r z h a)
 
@@ -45,7 +45,7 @@ through_next d e f text old rest mid new n k m r i h a p = record {
   grows = omega (arith, i.grows, p.grows);
   within = p.within;
   behind = p.behind ∙ drop_further mid old k m p.grows i.behind;
-  on = λ s t z. one-more_to s e f t rest (take k mid) (take m new) r p.front (i.on s t z) h a;
+  on = λ s t z. one_more_to s e f t rest (take k mid) (take m new) r p.front (i.on s t z) h a;
 }
 
 pub through_more : (d e f : Session) (text old rest mid new line behind : List ℕ) (n k m : ℕ) (r : Reply) → Through d text old n e rest mid k → 0 < length rest → line ≡ line_of rest → behind ≡ behind_line rest → Replies e (frame_in (bytes_of line)) r f → Put k r mid new m → Through d text old n f behind new m

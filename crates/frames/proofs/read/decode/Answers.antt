@@ -1,6 +1,6 @@
 use Rattle.std.proofs.Common.{arith, rules}
 use Rattle.std.proofs.lemmas.List.{length-set}
-use Rattle.frames.proofs.Decoding.{nothing_read, one-more-read, more_than_eleven_none}
+use Rattle.frames.proofs.Decoding.{nothing_read, one_more_read, more_than_eleven_none}
 use Rattle.frames.proofs.read.decode.Goals as goal
 
 pub loop-rest-init : goal.loop-rest-init
@@ -12,4 +12,4 @@ returns-then-n-eq-LONGEST c =
     c.loop-rest.invariant.2 c.loop-rest.invariant.0 (omega arith) (search rules)
 
 pub loop-rest-preserved : goal.loop-rest-preserved
-loop-rest-preserved c = search (rules, length-set, one-more-read)
+loop-rest-preserved c = search (rules, length-set, one_more_read)
