@@ -26,7 +26,7 @@ pub fn runs_keep_laws() -> u8
     0
 }
 
-// In every run the clock keeps its limits, and ins and del of a linked row get one stamp each, for ever.
+// In every run the clock keeps its limits, and ins and del of a linked row get at most one stamp each, which stays.
 pub fn runs_stamp() -> u8
     ensures { RunsStamp }
 {
