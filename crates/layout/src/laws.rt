@@ -2,8 +2,6 @@
 ghost use Rattle.layout.specs.Laws.{LayoutStands};
 
 // Each name has a needed cell of its own, each needed cell has a name, and each row has one owner.
-pub fn layout_stands() -> u8
+pub fn layout_stands()
     ensures { LayoutStands }
-{
-    0
-}
+{}
