@@ -12,7 +12,7 @@ use Rattle.layout.specs.declared.names.Cell.TheVariants as cell
 use Rattle.layout.specs.Layout.{index_of, needed, Named, IsRow, page_size, vertex_base, edge_base, page_base, row_start, page_start}
 use Rattle.layout.specs.Rows.{rows_all}
 use Rattle.layout.specs.Laws.{CellAt}
-use Rattle.layout.proofs.Regions.{start, region, offset, index_split, offset_lt, same_region}
+use Rattle.layout.proofs.Regions.{start, region, row_width, offset, index_split, offset_lt, same_region}
 
 -- the cell at place p of a row
 abbrev field_of : Kind → ℕ → ℕ → Cell
@@ -75,21 +75,16 @@ same_name s c d h k e =
     let o : offset s c ≡ offset s d = omega (arith, ap (start s) r) in
     sym (name_is s c h) ∙ ap (λ x. name_at s x (offset s c)) r ∙ ap (name_at s (region d)) o ∙ name_is s d k
 
--- a field of a vertex row, by its place
-vertex_field : (s : Sizes) (r p i : ℕ) → IsRow s Vertex r → p < 3 → row_start s Vertex r + p ≡ i → CellAt s i
-vertex_field s r zero i h l e = record { name = cell.Older Vertex r; named = h; lies = omega arith }
-vertex_field s r (suc zero) i h l e = record { name = cell.Stamp Vertex Ins r; named = h; lies = omega arith }
-vertex_field s r (suc (suc zero)) i h l e = record { name = cell.Stamp Vertex Del r; named = h; lies = omega arith }
-vertex_field s r (suc (suc (suc p))) i h l e = absurd (omega arith)
-
-edge_field : (s : Sizes) (r p i : ℕ) → IsRow s Edge r → p < 6 → row_start s Edge r + p ≡ i → CellAt s i
-edge_field s r zero i h l e = record { name = cell.Older Edge r; named = h; lies = omega arith }
-edge_field s r (suc zero) i h l e = record { name = cell.Stamp Edge Ins r; named = h; lies = omega arith }
-edge_field s r (suc (suc zero)) i h l e = record { name = cell.Stamp Edge Del r; named = h; lies = omega arith }
-edge_field s r (suc (suc (suc zero))) i h l e = record { name = cell.Source r; named = h; lies = omega arith }
-edge_field s r (suc (suc (suc (suc zero)))) i h l e = record { name = cell.Target r; named = h; lies = omega arith }
-edge_field s r (suc (suc (suc (suc (suc zero))))) i h l e = record { name = cell.Weight r; named = h; lies = omega arith }
-edge_field s r (suc (suc (suc (suc (suc (suc p)))))) i h l e = absurd (omega arith)
+-- a field of a row, by its place
+row_field : (s : Sizes) (k : Kind) (r p i : ℕ) → IsRow s k r → p < row_width k → row_start s k r + p ≡ i → CellAt s i
+row_field s k r zero i h l e = record { name = cell.Older k r; named = h; lies = omega arith }
+row_field s k r (suc zero) i h l e = record { name = cell.Stamp k Ins r; named = h; lies = omega arith }
+row_field s k r (suc (suc zero)) i h l e = record { name = cell.Stamp k Del r; named = h; lies = omega arith }
+row_field s Vertex r (suc (suc (suc p))) i h l e = absurd (omega arith)
+row_field s Edge r (suc (suc (suc zero))) i h l e = record { name = cell.Source r; named = h; lies = omega arith }
+row_field s Edge r (suc (suc (suc (suc zero)))) i h l e = record { name = cell.Target r; named = h; lies = omega arith }
+row_field s Edge r (suc (suc (suc (suc (suc zero))))) i h l e = record { name = cell.Weight r; named = h; lies = omega arith }
+row_field s Edge r (suc (suc (suc (suc (suc (suc p)))))) i h l e = absurd (omega arith)
 
 -- a square's place as row and column
 pair_below : (n x : ℕ) → 0 < n → x < n * n → (x / n < n) × (x % n < n) × (n * (x / n) + x % n ≡ x)
@@ -130,10 +125,10 @@ cell_at s i h =
         record { name = cell.Head (head.Edge (x / s.keys) (x % s.keys)); named = (p.0, p.1); lies = omega (arith, p.2) }
 
     vertices : (x : ℕ) → x < 3 * rows_all s Vertex → vertex_base s + x ≡ i → CellAt s i
-    vertices x l e = vertex_field s (x / 3 + 1) (x % 3) i (omega arith, omega arith) (omega arith) (omega arith)
+    vertices x l e = row_field s Vertex (x / 3 + 1) (x % 3) i (omega arith, omega arith) (omega arith) (omega arith)
 
     edges : (x : ℕ) → x < 6 * rows_all s Edge → edge_base s + x ≡ i → CellAt s i
-    edges x l e = edge_field s (x / 6 + 1) (x % 6) i (omega arith, omega arith) (omega arith) (omega arith)
+    edges x l e = row_field s Edge (x / 6 + 1) (x % 6) i (omega arith, omega arith) (omega arith) (omega arith)
 
     pages : (x : ℕ) → x < s.workers * page_size s → page_base s + x ≡ i → CellAt s i
     pages x l e =
