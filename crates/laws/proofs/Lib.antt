@@ -14,7 +14,6 @@ mod LinkTurns
 mod Keeps
 mod Begins
 mod Runs
-mod Stages
 mod Places
 mod Stamped
 mod Moments
