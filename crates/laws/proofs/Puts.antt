@@ -1,4 +1,4 @@
--- A named cell after other named cells were set: what holds of the new number there and of the old one elsewhere.
+-- A list after one item was set, and a named cell after other named cells were: what holds of the new one there and of the old one elsewhere.
 use Rattle.std.proofs.Common.{◌≡◌, ℕ, ◌+◌, ◌<◌, ◌≤◌, Bool, true, false, cond, eqb, ltb, List, length, get_or, set, sym, refl, ap, ◌∙◌, subst, ⊎_elim, arith}
 use Rattle.std.proofs.lemmas.List.{length-set, get_or-set_same, get_or-set_other}
 use Rattle.std.proofs.lemmas.Bool.{cases_eq, eqb-true, ltb-true}
@@ -10,6 +10,13 @@ use Rattle.layout.proofs.Regions.{index_lt}
 use Rattle.layout.proofs.Inverse.{same_name}
 use Rattle.stepper.specs.Effects.{put}
 use Rattle.stepper.specs.Turns.{cell_at}
+
+pub set_each : {A : Type 0} (P : ℕ → A → Type 0) (xs : List A) (w : ℕ) (x d : A) → w < length xs → P w x → ((v : ℕ) → ¬ (v ≡ w) → P v (get_or xs v d)) → (v : ℕ) → P v (get_or (set xs w x) v d)
+set_each P xs w x d l here there v =
+    ⊎_elim
+    (λ (e : v ≡ w). subst (λ u. P u (get_or (set xs w x) u d)) (sym e) (subst (P w) (sym (get_or-set_same xs w x d l)) here))
+    (λ (n : v ≡ w → ⊥). subst (P v) (sym (get_or-set_other xs w v x d n)) (there v n))
+    (cases_eq v w)
 
 -- cells enough for the sizes
 abbrev pub Enough : Sizes → List ℕ → Type 0

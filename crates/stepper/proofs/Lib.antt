@@ -2,6 +2,6 @@ mod Clearing
 mod Bounds
 mod Extending
 mod Starts
-mod Stages
+pub mod Stages
 mod Busy
 mod Giving
