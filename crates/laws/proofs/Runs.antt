@@ -22,16 +22,10 @@ use Rattle.stepper.specs.Requests.{is_idle, turn_refused, begun_as, state_or, st
 use Rattle.laws.specs.Fits.{FitPlace}
 use Rattle.laws.specs.Changes.{number_in}
 use Rattle.laws.specs.Sound.{Sound, RunsSound, RunsKeepLaws}
-use Rattle.laws.proofs.Served.{blank_queue}
+use Rattle.laws.proofs.Served.{get_or-replicate, blank_queue}
 use Rattle.laws.proofs.Stays.{turn_laws}
 use Rattle.laws.proofs.Keeps.{turn_sound}
 use Rattle.laws.proofs.Begins.{stepped_begin}
-
--- each record of a table of copies is the copy, or none
-pub get_or-replicate : {A : Type 0} (P : A → Type 0) (m i : ℕ) (x d : A) → P x → P d → P (get_or (replicate m x) i d)
-get_or-replicate P zero i x d a b = b
-get_or-replicate P (suc m) zero x d a b = a
-get_or-replicate P (suc m) (suc i) x d a b = get_or-replicate P m i x d a b
 
 -- the first n cells of a cleared list are 0
 front_zero : (n i : ℕ) (cs : List ℕ) → i < n → ◌≡◌ {A = ℕ} (get_or (replicate n 0 ++ cs) i 0) 0
@@ -67,7 +61,7 @@ module _ (z : Sizes) (cs : List ℕ) (l : needed z ≤ length cs) where
 -- a turn that is not refused is of a worker that there is
 taken : (a i : Bool) (x : ℕ) (W : ℕ) → a ≡ ltb x W → cond a (cond i (Some WorkerIdle) None) (Some NoSuchWorker) ≡ None → x < W
 taken true i x W e f = ltb-true x W (sym e)
-taken false i x W e f = let z : ◌≡◌ {A = ℕ} 0 1 = cc in absurd (omega arith)
+taken false i x W e f = absurd cc
 
 pub turn_taken : (s : State) (w : ℕ) → turn_refused s w ≡ None → w < s.sizes.workers
 turn_taken s w e = taken (ltb w s.sizes.workers) (is_idle (worker_at s w).place) w s.sizes.workers refl e
