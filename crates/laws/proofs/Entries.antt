@@ -1,6 +1,5 @@
 -- What a turn of a place that fits enters into the page has keys of the opening.
 use Rattle.std.proofs.Common.{rules, ℕ, Option, subst}
-use Rattle.layout.specs.declared.sizes.Sizes.{Sizes}
 use Rattle.places.specs.declared.place.Survey.{Survey}
 use Rattle.places.specs.declared.place.Leg.{Leg}
 use Rattle.places.specs.declared.place.Job.{Job}

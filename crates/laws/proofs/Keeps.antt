@@ -41,7 +41,7 @@ use Rattle.laws.specs.Sound.{Sound}
 use Rattle.laws.specs.Stamps.{field_start}
 use Rattle.laws.proofs.Heads.{look_named, job_named}
 use Rattle.laws.proofs.Owned.{linked_row, row_bound, next_own_lem}
-use Rattle.laws.proofs.Puts.{Enough, set_each}
+use Rattle.laws.proofs.Puts.{set_each}
 use Rattle.laws.proofs.Pages.{enough_entered}
 use Rattle.laws.proofs.Touched.{enough_after}
 use Rattle.laws.proofs.Stays.{turn_changes, turn_laws, settled_of}

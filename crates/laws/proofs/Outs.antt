@@ -1,5 +1,5 @@
 -- A place that fits leads to places that fit.
-use Rattle.std.proofs.Common.{rules, ◌≡◌, ℕ, ◌<◌, Bool, true, false, cond, eqb, ltb, Some, None, Ok, Err, Option, Result, refl, subst, inl, inr, arith}
+use Rattle.std.proofs.Common.{rules, ◌≡◌, ℕ, ◌<◌, Bool, true, false, cond, eqb, Some, None, Ok, Err, Option, Result, refl, inl, inr, arith}
 use Rattle.std.proofs.lemmas.Bool.{eqb-false, cond_both}
 use Rattle.std.specs.Option.{is_some}
 use Rattle.std.specs.declared.ops.ControlFlow.TheVariants.{Continue, Break}
@@ -10,7 +10,7 @@ use Rattle.layout.specs.declared.names.Field.TheVariants.{Ins, Del}
 use Rattle.layout.specs.declared.names.Head.TheVariants as head
 use Rattle.layout.specs.declared.names.Cell.TheVariants as cell
 use Rattle.places.specs.declared.mark.Mark.{Mark}
-use Rattle.places.specs.declared.mark.Mark.TheVariants.{NotEnded, Pending, Stamp}
+use Rattle.places.specs.declared.mark.Mark.TheVariants.{NotEnded, Stamp}
 use Rattle.places.specs.declared.place.Op.{Op}
 use Rattle.places.specs.declared.place.Op.TheVariants.{Add, Remove, Contains}
 use Rattle.places.specs.declared.place.Pair.{Pair}

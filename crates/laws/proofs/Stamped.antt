@@ -26,7 +26,7 @@ use Rattle.stepper.specs.Requests.{turn_refused, begun_as, state_or, state_begun
 use Rattle.stepper.specs.History.{Event, Traces}
 use Rattle.stepper.proofs.Stages.{Staged, StagedOr}
 use Rattle.laws.specs.Fits.{Linked}
-use Rattle.laws.specs.Changes.{next_own, number_in, Changes, Changes.keeps, Changes.ticks, Changes.links, Changes.stamps, Changes.ends, Changes.fills, Changes.writes}
+use Rattle.laws.specs.Changes.{number_in, Changes, Changes.keeps, Changes.ticks, Changes.links, Changes.stamps, Changes.ends, Changes.fills, Changes.writes}
 use Rattle.laws.specs.Sound.{Sound}
 use Rattle.laws.specs.Stamps.{IsStamp, field_start, Holds, Holds.not_ended, Holds.waits, Holds.stamped, Moves, Moves.same, Moves.ended, Moves.settled}
 use Rattle.laws.proofs.Owned.{linked_row, next_unlinked}
