@@ -24,6 +24,10 @@ use Rattle.laws.proofs.Puts.{set_each}
 use Rattle.laws.proofs.Grows.{Later, row_later, place_later}
 use Rattle.laws.proofs.Served.{QueueFits}
 
+ok_if : {X E : Type 0} (t : Bool) (r : Result X E) (e : E) (x : X) → cond t r (Err e) ≡ Ok x → (t ≡ true) × (r ≡ Ok x)
+ok_if true r e x h = (refl, h)
+ok_if false r e x h = absurd cc
+
 -- a call that is accepted names keys of the opening
 module _ (s : State) (b : Begin) where
   abbrev n : ℕ
@@ -59,23 +63,23 @@ module _ (s : State) (b : Begin) where
       (cases_lt b.call 7))
       (cases_lt b.call 4)
 
-  called : (x y v : Bool) (c : Call) → y ≡ keys_fit n b → cond x (cond y (cond v (Ok (call_named b)) (Err WeightOutside)) (Err KeyOutside)) (Err NoSuchCall) ≡ Ok c → FitPlace s (place_first c)
-  called true true true c e f = let g : call_named b ≡ c = cc in subst (λ q. FitPlace s (place_first q)) g (named_fits (sym e))
-  called true true false c e f = absurd cc
-  called true false v c e f = absurd cc
-  called false y v c e f = absurd cc
+  called : (c : Call) → call_of n b ≡ Ok c → FitPlace s (place_first c)
+  called c e =
+      let known = ok_if (between 1 b.call 8) _ NoSuchCall c e in
+      let keys = ok_if (keys_fit n b) _ KeyOutside c known.1 in
+      let weight = ok_if (weight_fits b) _ WeightOutside c keys.1 in
+      let g : call_named b ≡ c = cc in
+      subst (λ q. FitPlace s (place_first q)) g (named_fits keys.0)
 
   free_same : (p : PageState) (r : Result Call Refusal) (c : Call) → page_free p r ≡ Ok c → r ≡ Ok c
   free_same page.Out (Ok (call.Survey v)) c e = absurd cc
   free_same p r c e = e
 
-  accepted : (x y : Bool) (c : Call) → x ≡ ltb b.worker s.sizes.workers → cond x (cond y (page_free (worker_at s b.worker).page (call_of n b)) (Err WorkerBusy)) (Err NoSuchWorker) ≡ Ok c → (b.worker < s.sizes.workers) × FitPlace s (place_first c)
-  accepted true true c e f = (
-    ltb-true b.worker s.sizes.workers (sym e),
-    called (between 1 b.call 8) (keys_fit n b) (weight_fits b) c refl (free_same (worker_at s b.worker).page (call_of n b) c f),
-  )
-  accepted true false c e f = absurd cc
-  accepted false y c e f = absurd cc
+  accepted : (c : Call) → begun_as s b ≡ Ok c → (b.worker < s.sizes.workers) × FitPlace s (place_first c)
+  accepted c e =
+      let there = ok_if (ltb b.worker s.sizes.workers) _ NoSuchWorker c e in
+      let idle = ok_if (is_idle (worker_at s b.worker).place) _ WorkerBusy c there.1 in
+      (ltb-true b.worker s.sizes.workers there.0, called c (free_same (worker_at s b.worker).page (call_of n b) c idle.1))
 
   begun_count : (v : Worker) (c : Call) (k : Kind) → linked_of (begun v c) k ≡ linked_of v k
   begun_count v c Vertex = refl
@@ -89,7 +93,7 @@ module _ (s : State) (b : Begin) where
     t = state_begun s b.worker (Ok c)
 
     fits : (w < s.sizes.workers) × FitPlace s (place_first c)
-    fits = accepted (ltb w s.sizes.workers) (is_idle (worker_at s w).place) c refl e
+    fits = accepted c e
 
     -- each record after the begin
     pub begun_each : (P : ℕ → Worker → Type 0) → P b.worker (begun (worker_at s b.worker) c) → ((v : ℕ) → P v (worker_at s v)) → (v : ℕ) → P v (worker_at (state_begun s b.worker (Ok c)) v)
@@ -104,7 +108,7 @@ module _ (s : State) (b : Begin) where
     pub was : (k : Kind) (r : ℕ) → Linked t k r → Linked s k r
     was k r l = record { owner = l.owner; place = l.place; before = subst (λ m. l.place < m) (count_same l.owner k) l.before; is = l.is }
 
-    begin_sound : Sound t
+    pub begin_sound : Sound t
     begin_sound = record {
       cells = z.cells;
       table = simp length-set z.table;
@@ -113,7 +117,3 @@ module _ (s : State) (b : Begin) where
       places = begun_each (λ v u. v < s.sizes.workers → FitPlace t u.place) (λ _. place_later s t later_begun (place_first c) fits.1) (λ v l. place_later s t later_begun (worker_at s v).place (z.places v l));
       queues = λ v i l. begun_each (λ v u. v < s.sizes.workers → QueueFits s.sizes.keys u.book) (λ l i. z.queues w i l) (λ v l i. z.queues v i l) v l i;
     }
-
-  pub stepped_begin : Sound s → (r : Result Call Refusal) → begun_as s b ≡ r → Sound (state_begun s b.worker r)
-  stepped_begin z (Ok c) e = begin_sound z c e
-  stepped_begin z (Err q) e = z

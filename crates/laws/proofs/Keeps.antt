@@ -36,7 +36,7 @@ use Rattle.stepper.specs.Effects.{got_of}
 use Rattle.stepper.specs.Turns.{worker_at, spare_for, hand_of, hand_at, touch_at, next_at, followed_at, turned}
 use Rattle.stepper.specs.Workers.{nobody, more, at, finishes, finished, linked_of, with_book, counted, arrived, followed}
 use Rattle.laws.specs.Fits.{Linked, RowOrNone, HeldOrNone, FitChange, FitSurvey, FitJob, FitPurpose, FitPlace, Fit}
-use Rattle.laws.specs.Changes.{next_own, number_in, Changes, Changes.keeps, Changes.ticks, Changes.links, Changes.stamps, Changes.ends, Changes.fills, Changes.writes}
+use Rattle.laws.specs.Changes.{next_own, number_in, Changes}
 use Rattle.laws.specs.Sound.{Sound}
 use Rattle.laws.specs.Stamps.{field_start}
 use Rattle.laws.proofs.Heads.{look_named, job_named}
@@ -44,7 +44,7 @@ use Rattle.laws.proofs.Owned.{linked_row, row_bound, next_own_lem}
 use Rattle.laws.proofs.Puts.{set_each}
 use Rattle.laws.proofs.Pages.{enough_entered}
 use Rattle.laws.proofs.Touched.{enough_after}
-use Rattle.laws.proofs.Stays.{turn_changes, turn_laws, settled_of}
+use Rattle.laws.proofs.Stays.{HeadMoves, head_changes, turn_changes, turn_laws}
 use Rattle.laws.proofs.Outs.{FitOut, FitsNext, HandAt, GotAt, next_of_fit}
 use Rattle.laws.proofs.Counts.{same_kind, count_after, followed_count}
 use Rattle.laws.proofs.Follows.{LinkTurn, Follows, follows}
@@ -100,16 +100,10 @@ module _ (s : State) (w : ℕ) (z : Sound s) (b : w < s.sizes.workers) where
   count_grows k x e = omega arith
 
   head_grows : (h : Head) (x y : ℕ) → Changes s w (cell.Head h) x y → 0 < x → 0 < y
-  head_grows h x y (keeps e) p = omega arith
-  head_grows h x y (ticks v e i q r) p = absurd cc
-  head_grows h x y (links d e i q) p = omega (arith, linked_pos (change_kind d) y q)
-    where
-      linked_pos : (k : Kind) (r : ℕ) → next_own s w k ≡ Some r → 0 < r
-      linked_pos k r q = let l = next_own_lem s w k r q in omega (arith, l.0)
-  head_grows h x y (stamps f e i q) p = let u = settled_of s w fit f y e in absurd (cc (i ∙ u.is))
-  head_grows h x y (ends d r e i a c) p = absurd cc
-  head_grows h x y (fills k r q o) p = absurd o
-  head_grows h x y (writes o) p = absurd o
+  head_grows h x y c p =
+      ⊎_elim (λ (e : y ≡ x). omega arith)
+      (λ (m : HeadMoves s w fit h x y). let r = next_own_lem s w (change_kind m.change) y m.own in omega (arith, r.0))
+      (head_changes s w fit h x y c)
 
   pub later : Later s t
   later = record {
@@ -201,17 +195,14 @@ module _ (s : State) (w : ℕ) (z : Sound s) (b : w < s.sizes.workers) where
 
   -- heads are linked rows or none
   head_sound : (h : Head) (y : ℕ) → Named s.sizes (cell.Head h) → Changes s w (cell.Head h) (number_in s (cell.Head h)) y → RowOrNone t (head_kind h) y
-  head_sound h y m (keeps e) = subst (RowOrNone t (head_kind h)) (sym e) (row_later s t later (head_kind h) (number_in s (cell.Head h)) (z.heads h m))
-  head_sound h y m (ticks v e i q r) = absurd cc
-  head_sound h y m (links d e i q) =
-      let g : h ≡ change_head d = cc in
-      let f : FitPlace s (place.Link d (number_in s (cell.Head h))) = subst (FitPlace s) e (z.places w b) in
-      let won = won_links s w d (number_in s (cell.Head h)) z.cells f.0 y q e (ap (number_in s) (sym i)) in
-      inr (subst (λ (k : Kind). Linked t k y) (ap head_kind (sym g)) (new_linked d y won))
-  head_sound h y m (stamps f e i q) = let u = settled_of s w fit f y e in absurd (cc (i ∙ u.is))
-  head_sound h y m (ends d r e i a c) = absurd cc
-  head_sound h y m (fills k r q o) = absurd o
-  head_sound h y m (writes o) = absurd o
+  head_sound h y n c =
+      ⊎_elim
+      (λ (e : y ≡ number_in s (cell.Head h)). subst (RowOrNone t (head_kind h)) (sym e) (row_later s t later (head_kind h) (number_in s (cell.Head h)) (z.heads h n)))
+      (λ (m : HeadMoves s w fit h (number_in s (cell.Head h)) y).
+      let f : FitPlace s (place.Link m.change (number_in s (cell.Head h))) = subst (FitPlace s) m.at_link (z.places w b) in
+      let won = won_links s w m.change (number_in s (cell.Head h)) z.cells f.0 y m.own m.at_link (ap (λ g. number_in s (cell.Head g)) (sym m.is)) in
+      inr (subst (λ (k : Kind). Linked t k y) (ap head_kind (sym m.is)) (new_linked m.change y won)))
+      (head_changes s w fit h (number_in s (cell.Head h)) y c)
 
   -- a row that is linked now was linked before, or was linked in this turn
   pub record New (k : Kind) (r : ℕ) : Type 0 where

@@ -13,6 +13,7 @@ mod Counts
 mod LinkTurns
 mod Keeps
 mod Begins
+mod Steps
 mod Runs
 mod Places
 mod Stamped

@@ -34,7 +34,8 @@ use Rattle.laws.specs.Sound.{Sound}
 use Rattle.laws.specs.Stamps.{IsStamp, Moves, Moves.same, Moves.ended, Moves.settled, Moment}
 use Rattle.laws.proofs.Touched.{Settled, settled_field_lem}
 use Rattle.laws.proofs.Served.{get_or-replicate}
-use Rattle.laws.proofs.Runs.{turn_taken, runs_sound}
+use Rattle.laws.proofs.Steps.{step_each, run_each}
+use Rattle.laws.proofs.Runs.{runs_sound}
 use Rattle.laws.proofs.Places.{got_at, number_at, turn_places, begin_places}
 use Rattle.laws.proofs.Stamped.{Stamped, turn_moves, runs_stamped}
 
@@ -141,30 +142,22 @@ module _ (start : State) (e : Event) (h : List Event) (s : State) (z : Sound s) 
       kept_number : (j : Kind) (f : Field) (r : ℕ) → number_in t (cell.Stamp j f r) ≡ number_in s (cell.Stamp j f r)
       kept_number j f r = cc
 
-  begin_known : (b : Begin) (r : Result Call Refusal) → begun_as s b ≡ r → AllKnown start (e ∷ h) (state_begun s b.worker r)
-  begin_known b (Err q) a = kept_known s refl refl
-  begin_known b (Ok c) a =
+  begin_known : (b : Begin) (c : Call) → begun_as s b ≡ Ok c → AllKnown start (e ∷ h) (state_begun s b.worker (Ok c))
+  begin_known b c a =
       let t : State = state_begun s b.worker (Ok c) in
       begin_places s b z c a (Known start (e ∷ h) t) (first_known start (e ∷ h) t c) (kept_known t refl refl)
-
-  refused_known : Traces start h s → Stamped s → (w : ℕ) (r : Option Refusal) → turn_refused s w ≡ r → AllKnown start (e ∷ h) (state_or r s (turned s w))
-  refused_known tr i w (Some q) a = kept_known s refl refl
-  refused_known tr i w None a = turn_known start e h s tr w z (turn_taken s w a) i k
-
-  stepped_known : Traces start h s → Stamped s → (q : Request) → AllKnown start (e ∷ h) (stepped s q)
-  stepped_known tr i (request.Begin b) = begin_known b (begun_as s b) refl
-  stepped_known tr i (request.Turn w) = refused_known tr i w (turn_refused s w) refl
 
 module _ (z : Sizes) (cs : List ℕ) (l : needed z ≤ length cs) where
   abbrev start : State
   start = opened_state cs z
 
   runs_known : (h : List Event) (s : State) → Traces start h s → AllKnown start h s
-  runs_known [] s t = subst (AllKnown start []) t (λ w b. get_or-replicate (λ u. Known start [] start u.place) 8 w fresh nobody tt tt)
-  runs_known (e ∷ h) s t =
-      let k = runs_sound z cs l h t.0 t.1 in
-      let i = runs_stamped z cs l h t.0 t.1 in
-      subst (AllKnown start (e ∷ h)) (sym t.3) (stepped_known start e h t.0 k (runs_known h t.0 t.1) t.1 i e.request)
+  runs_known =
+      run_each start (AllKnown start) (λ w b. get_or-replicate (λ u. Known start [] start u.place) 8 w fresh nobody tt tt)
+      (λ e h s t a.
+      let k = runs_sound z cs l h s t in
+      let i = runs_stamped z cs l h s t in
+      step_each s (AllKnown start (e ∷ h)) (kept_known start e h s k a s refl refl) (begin_known start e h s k a) (λ w b. turn_known start e h s t w k b i a) e.request)
 
   swap_source : (h : List Event) (s : State) (n : ℕ) (p : Purpose) → Known start h s (place.Settle (stage.Swap n) p) → number_in s (settled_field p) ≡ pending → Moment start h (settled_field p) n
   swap_source h s n p (inl i) e = absurd (omega arith)

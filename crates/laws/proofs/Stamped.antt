@@ -1,5 +1,5 @@
 -- Every run keeps the clock within its limits, and ins and del of linked rows at 0, pending or a stamp.
-use Rattle.std.proofs.Common.{◌≡◌, ℕ, ◌<◌, ◌≤◌, List, [], ◌∷◌, length, Some, None, Ok, Err, Option, Result, sym, refl, ap, ◌∙◌, subst, ⊎_elim, arith}
+use Rattle.std.proofs.Common.{◌≡◌, ℕ, ◌+◌, ◌<◌, ◌≤◌, List, [], ◌∷◌, length, Some, None, Ok, Err, Option, Result, sym, refl, ap, ◌∙◌, subst, ⊎_elim, arith}
 use Rattle.std.proofs.lemmas.List.{length-append, length-replicate, get_or-set_same}
 use Rattle.codes.specs.declared.answer.Answer.{Answer}
 use Rattle.codes.specs.declared.refusal.Refusal.{Refusal}
@@ -30,11 +30,12 @@ use Rattle.laws.specs.Changes.{number_in, Changes, Changes.keeps, Changes.ticks,
 use Rattle.laws.specs.Sound.{Sound}
 use Rattle.laws.specs.Stamps.{IsStamp, field_start, Holds, Holds.not_ended, Holds.waits, Holds.stamped, Moves, Moves.same, Moves.ended, Moves.settled}
 use Rattle.laws.proofs.Owned.{linked_row, next_unlinked}
-use Rattle.laws.proofs.Stays.{turn_changes, settled_of}
+use Rattle.laws.proofs.Stays.{turn_changes, clock_changes}
 use Rattle.laws.proofs.Keeps.{New, fit, split, new_starts}
 use Rattle.laws.proofs.Begins.{was}
 use Rattle.laws.proofs.Served.{get_or-replicate}
-use Rattle.laws.proofs.Runs.{no_links, turn_taken, runs_sound}
+use Rattle.laws.proofs.Steps.{step_each, run_each}
+use Rattle.laws.proofs.Runs.{no_links, runs_sound}
 use Rattle.laws.proofs.Places.{got_at, number_at, turn_places, begin_places}
 
 -- the number that a worker has read off the clock
@@ -62,13 +63,9 @@ module _ (s : State) (w : ℕ) (z : Sound s) (b : w < s.sizes.workers) (i : Stam
   t = turned s w
 
   clock_moves : (x y : ℕ) → Changes s w cell.Clock x y → IsStamp s.sizes x → IsStamp s.sizes y
-  clock_moves x y (keeps e) h = subst (IsStamp s.sizes) (sym e) h
-  clock_moves x y (ticks v e c l q) h = (omega arith, omega arith)
-  clock_moves x y (links d e c p) h = absurd cc
-  clock_moves x y (stamps p e c q) h = let u = settled_of s w (fit s w z b) p y e in absurd (cc (c ∙ u.is))
-  clock_moves x y (ends d r e c a q) h = absurd cc
-  clock_moves x y (fills k r p o) h = absurd o
-  clock_moves x y (writes o) h = absurd o
+  clock_moves x y c h =
+      ⊎_elim (λ (e : y ≡ x). subst (IsStamp s.sizes) (sym e) h) (λ (e : (x < s.sizes.top) × (y ≡ x + 1)). (omega arith, omega arith))
+      (clock_changes s w (fit s w z b) x y c)
 
   -- a worker reads its number off the clock
   read_hand : (q : Place) → Staged (worker_at s w).place (got_at s w) q → InHand s.sizes q
@@ -106,21 +103,12 @@ first_hand : (z : Sizes) (c : Call) → InHand z (place_first c)
 first_hand z (call.Survey v) = tt
 first_hand z c = tt
 
-begin_stamped : (s : State) (b : Begin) → Sound s → Stamped s → (r : Result Call Refusal) → begun_as s b ≡ r → Stamped (state_begun s b.worker r)
-begin_stamped s b z i (Err q) e = i
-begin_stamped s b z i (Ok c) e = record {
+begin_stamped : (s : State) (b : Begin) → Sound s → Stamped s → (c : Call) → begun_as s b ≡ Ok c → Stamped (state_begun s b.worker (Ok c))
+begin_stamped s b z i c e = record {
   clock = i.clock;
   hands = begin_places s b z c e (InHand s.sizes) (first_hand s.sizes c) i.hands;
   fields = λ k f r l. i.fields k f r (was s b z c e k r l);
 }
-
-refused_stamped : (s : State) (w : ℕ) → Sound s → Stamped s → (r : Option Refusal) → turn_refused s w ≡ r → Stamped (state_or r s (turned s w))
-refused_stamped s w z i (Some q) e = i
-refused_stamped s w z i None e = turn_stamped s w z (turn_taken s w e) i
-
-stepped_stamped : (s : State) (q : Request) → Sound s → Stamped s → Stamped (stepped s q)
-stepped_stamped s (request.Begin b) z i = begin_stamped s b z i (begun_as s b) refl
-stepped_stamped s (request.Turn w) z i = refused_stamped s w z i (turn_refused s w) refl
 
 open_stamped : (z : Sizes) (cs : List ℕ) → needed z ≤ length cs → Stamped (opened_state cs z)
 open_stamped z cs l =
@@ -133,5 +121,6 @@ open_stamped z cs l =
     }
 
 pub runs_stamped : (z : Sizes) (cs : List ℕ) → needed z ≤ length cs → (h : List Event) (s : State) → Traces (opened_state cs z) h s → Stamped s
-runs_stamped z cs l [] s t = subst Stamped t (open_stamped z cs l)
-runs_stamped z cs l (e ∷ h) s t = subst Stamped (sym t.3) (stepped_stamped t.0 e.request (runs_sound z cs l h t.0 t.1) (runs_stamped z cs l h t.0 t.1))
+runs_stamped z cs l =
+    run_each (opened_state cs z) (λ h s. Stamped s) (open_stamped z cs l)
+    (λ e h s t i. let k = runs_sound z cs l h s t in step_each s Stamped i (λ b c q. begin_stamped s b k i c q) (λ w b. turn_stamped s w k b i) e.request)

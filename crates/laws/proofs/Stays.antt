@@ -1,5 +1,5 @@
 -- What a turn leaves as it was.
-use Rattle.std.proofs.Common.{◌≡◌, ℕ, ◌≤◌, Some, sym, refl, ◌∙◌, subst, arith}
+use Rattle.std.proofs.Common.{◌≡◌, ℕ, ◌+◌, ◌<◌, ◌⊎◌, inl, inr, ⊎_elim, ◌≤◌, Some, sym, refl, ◌∙◌, subst, arith}
 use Rattle.std.proofs.lemmas.List.{get_or-set_other}
 use Rattle.layout.specs.declared.names.Kind.{Kind}
 use Rattle.layout.specs.declared.names.Kind.TheVariants.{Edge}
@@ -88,14 +88,30 @@ module _ (s : State) (w : ℕ) (f : Fit s w) where
   pub stays : (c : Cell) → Named s.sizes c → Safe c → Stays s w c
   stays c m n = safe_stays c (number_in s c) (number_in (turned s w) c) n (turn_changes s w f c m)
 
-  clock_rises : (x y : ℕ) → Changes s w cell.Clock x y → x ≤ y
-  clock_rises x y (keeps e) = omega arith
-  clock_rises x y (ticks v e i b q) = omega arith
-  clock_rises x y (links d e i p) = absurd cc
-  clock_rises x y (stamps p e i q) = let t = settled_of p y e in absurd (cc (i ∙ t.is))
-  clock_rises x y (ends d r e i a b) = absurd cc
-  clock_rises x y (fills k r p o) = absurd o
-  clock_rises x y (writes o) = absurd o
+  -- the clock only ticks, and a head only moves to a row that is linked
+  pub clock_changes : (x y : ℕ) → Changes s w cell.Clock x y → (y ≡ x) ⊎ ((x < s.sizes.top) × (y ≡ x + 1))
+  clock_changes x y (keeps e) = inl e
+  clock_changes x y (ticks v e i l q) = inr (l, q)
+  clock_changes x y (links d e i q) = absurd cc
+  clock_changes x y (stamps p e i q) = let t = settled_of p y e in absurd (cc (i ∙ t.is))
+  clock_changes x y (ends d r e i a b) = absurd cc
+  clock_changes x y (fills k r p o) = absurd o
+  clock_changes x y (writes o) = absurd o
+
+  pub record HeadMoves (h : Head) (x y : ℕ) : Type 0 where
+    pub change : Change
+    pub at_link : (worker_at s w).place ≡ place.Link change x
+    pub is : h ≡ change_head change
+    pub own : next_own s w (change_kind change) ≡ Some y
+
+  pub head_changes : (h : Head) (x y : ℕ) → Changes s w (cell.Head h) x y → (y ≡ x) ⊎ HeadMoves h x y
+  head_changes h x y (keeps e) = inl e
+  head_changes h x y (ticks v e i l q) = absurd cc
+  head_changes h x y (links d e i q) = inr (record { change = d; at_link = e; is = cc; own = q })
+  head_changes h x y (stamps p e i q) = let t = settled_of p y e in absurd (cc (i ∙ t.is))
+  head_changes h x y (ends d r e i a b) = absurd cc
+  head_changes h x y (fills k r p o) = absurd o
+  head_changes h x y (writes o) = absurd o
 
   -- another worker's page
   page_safe : (v : ℕ) (c : Cell) → OnPage v c → ¬ (v ≡ w) → Safe c
@@ -139,7 +155,7 @@ module _ (s : State) (w : ℕ) (f : Fit s w) where
 pub turn_laws : TurnsKeepLaws
 turn_laws s w f = record {
   changes = turn_changes s w f;
-  clock = clock_rises s w f (number_in s cell.Clock) (number_in (turned s w) cell.Clock) (turn_changes s w f cell.Clock tt);
+  clock = ⊎_elim (λ (e : number_in (turned s w) cell.Clock ≡ number_in s cell.Clock). omega arith) (λ (e : (number_in s cell.Clock < s.sizes.top) × (number_in (turned s w) cell.Clock ≡ number_in s cell.Clock + 1)). omega arith) (clock_changes s w f _ _ (turn_changes s w f cell.Clock tt));
   records = λ v n. get_or-set_other s.workers w v (followed_at s w).worker nobody n;
   pages = λ v c m o n. stays s w f c m (page_safe s w f v c o n);
   unlinked = λ v k r c m o a n u. stays s w f c m (row_safe s w f v k r c o a n u);
