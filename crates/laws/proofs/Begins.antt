@@ -1,5 +1,5 @@
 -- A begin keeps what every run keeps.
-use Rattle.std.proofs.Common.{◌≡◌, ℕ, ◌<◌, ◌≤◌, Bool, true, false, cond, not, ◌&&◌, eqb, ltb, leb, Ok, Err, Result, sym, refl, subst, ⊎_elim, arith}
+use Rattle.std.proofs.Common.{rules, ◌≡◌, ℕ, ◌<◌, ◌≤◌, Bool, true, false, cond, not, ◌&&◌, eqb, ltb, leb, Ok, Err, Result, sym, refl, subst, ⊎_elim, arith}
 use Rattle.std.proofs.lemmas.List.{length-set}
 use Rattle.std.proofs.lemmas.Bool.{cases_eq, cases_lt, ltb-true, le-leb, lt-leb, ne_eqb, eq-eqb, and_parts}
 use Rattle.codes.specs.declared.refusal.Refusal.{Refusal}
@@ -34,34 +34,7 @@ module _ (s : State) (b : Begin) where
   n = s.sizes.keys
 
   named_fits : keys_fit n b ≡ true → FitPlace s (place_first (call_named b))
-  named_fits k =
-      ⊎_elim
-      (λ (l : b.call < 4).
-      let a : leb b.call 3 ≡ true = le-leb b.call 3 (omega arith) in
-      let c : leb 4 b.call ≡ false = lt-leb 4 b.call (omega arith) in
-      let d : eqb b.call 7 ≡ false = ne_eqb b.call 7 (omega arith) in
-      let f : b.from < n = ltb-true b.from n (rw (c, d) at k) in
-      rw a f)
-      (λ (l : 4 ≤ b.call).
-      let a : leb b.call 3 ≡ false = lt-leb b.call 3 (omega arith) in
-      let c : leb 4 b.call ≡ true = le-leb 4 b.call (omega arith) in
-      ⊎_elim
-      (λ (m : b.call < 7).
-      let d : leb b.call 6 ≡ true = le-leb b.call 6 (omega arith) in
-      let p = and_parts (ltb b.from n) (ltb b.to n && not (eqb b.from b.to)) (rw (c, d) at k) in
-      let q = and_parts (ltb b.to n) (not (eqb b.from b.to)) p.1 in
-      rw (a, d) (ltb-true b.from n p.0, ltb-true b.to n q.0))
-      (λ (m : 7 ≤ b.call).
-      let d : leb b.call 6 ≡ false = lt-leb b.call 6 (omega arith) in
-      ⊎_elim
-      (λ (e : b.call ≡ 7). let g : eqb b.call 7 ≡ true = eq-eqb b.call 7 e in rw (a, d, g) tt)
-      (λ (e : b.call ≡ 7 → ⊥).
-      let g : eqb b.call 7 ≡ false = ne_eqb b.call 7 e in
-      let f : b.from < n = ltb-true b.from n (rw (c, d, g) at k) in
-      rw (a, d, g) f)
-      (cases_eq b.call 7))
-      (cases_lt b.call 7))
-      (cases_lt b.call 4)
+  named_fits k = search (rules, ltb-true, and_parts)
 
   called : (c : Call) → call_of n b ≡ Ok c → FitPlace s (place_first c)
   called c e =
