@@ -1,5 +1,5 @@
 -- How a turn counts the rows that its worker has linked.
-use Rattle.std.proofs.Common.{◌≡◌, ℕ, Bool, true, false, cond, refl, ◌∙◌}
+use Rattle.std.proofs.Common.{rules, ◌≡◌, ℕ, Bool, true, false, cond, refl, ◌∙◌}
 use Rattle.std.proofs.lemmas.Bool.{cond_both}
 use Rattle.std.specs.declared.ops.ControlFlow.TheVariants.{Continue, Break}
 use Rattle.layout.specs.declared.names.Kind.{Kind}
@@ -41,7 +41,7 @@ finished_count v Edge = refl
 
 arrived_count : (v : Worker) (o : Out) (k : Kind) → linked_of (arrived v o) k ≡ linked_of v k
 arrived_count v (Continue p) k = at_count v p k
-arrived_count v (Break a) k = cond_both (finishes a) (finished v) (at v place.Idle) (λ u. linked_of u k ≡ linked_of v k) (λ _. finished_count v k) (λ _. at_count v place.Idle k)
+arrived_count v (Break a) k = search (rules, finished_count, at_count)
 
 counted_count : (v : Worker) (c k : Kind) → linked_of (counted v c) k ≡ cond (same_kind c k) (more (linked_of v k)) (linked_of v k)
 counted_count v Vertex Vertex = refl

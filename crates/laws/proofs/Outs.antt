@@ -121,11 +121,7 @@ module _ (s : State) where
   nonzero k r (inr l) e = l
 
   walked_ins_fit : (k : Walk) (r : ℕ) (h : Hand) (n : ℕ) → FitJob s k.job → Linked s (job_kind k.job) r → RowOrNone s (job_kind k.job) h.older → FitsNext s (walked_ins k r h n)
-  walked_ins_fit k r h n f l o =
-      let on : Next = next.Out (Continue (place.WalkOlder k h.older)) in
-      cond_both (above h.t (mark_of n)) (cond (eqb h.older 0) (next.Walked k 0) on) (next.Out (first (purpose.Walk Del k r))) (FitsNext s)
-      (λ _. cond_both (eqb h.older 0) (next.Walked k 0) on (FitsNext s) (λ _. f) (λ e. (f, nonzero (job_kind k.job) h.older o e)))
-      (λ _. (f, l))
+  walked_ins_fit k r h n f l o = search (rules, nonzero)
 
   -- what is at hand to settle a field
   abbrev pub HandAt : Purpose → Hand → Type 0
@@ -147,7 +143,7 @@ module _ (s : State) where
   settled_fit (purpose.Walk Del k r) h n f a = f.0
 
   settling_fit : (st : Stage) (p : Purpose) (h : Hand) (n : ℕ) → FitPurpose s p → HandAt p h → FitsNext s (settling st p h n)
-  settling_fit stage.First p h n f a = cond_both (eqb n pending) (settle_on stage.Clock p) (settled p h n) (FitsNext s) (λ _. f) (λ _. settled_fit p h n f a)
+  settling_fit stage.First p h n f a = search (rules, settled_fit)
   settling_fit stage.Again p h n f a = settled_fit p h n f a
   settling_fit st p h n f a = f
 
@@ -170,15 +166,11 @@ module _ (s : State) where
 
   pub next_of_fit : (p : Place) (h : Hand) (g : Option ℕ) → FitPlace s p → GotAt p h g → FitsNext s (next_of p h g)
   next_of_fit place.Idle h g f a = tt
-  next_of_fit (place.Head l) h g f a =
-      cond_both (eqb (number_of g) 0) (next.Out (absent l 0)) (next.Out (first (purpose.Look Ins l (number_of g)))) (FitsNext s)
-      (λ _. absent_fit l 0 f (inl refl)) (λ e. (f, held_of l (number_of g) a.0 a.1 e))
+  next_of_fit (place.Head l) h g f a = let none : FitOut s (absent l 0) = absent_fit l 0 f (inl refl) in search (rules, held_of)
   next_of_fit (place.Settle st p) h g f a = settling_fit st p h (number_of g) f a
   next_of_fit (place.Link c o) h g f a = link_done_fit c h.spare (is_some g) f.0 a
   next_of_fit (place.End c r) h g f a = end_done_fit (is_some g) c r f.0 f.1
   next_of_fit (place.LostHead i) h g f a = won_of i (number_of g) f.1 a.0 a.1
   next_of_fit (place.Raise v) h g f a = raise_done_fit v g f
-  next_of_fit (place.WalkHead k) h g f a =
-      cond_both (eqb (number_of g) 0) (next.Walked k 0) (next.Out (first (purpose.Walk Ins k (number_of g)))) (FitsNext s)
-      (λ _. f) (λ e. (f, nonzero (job_kind k.job) (number_of g) a e))
+  next_of_fit (place.WalkHead k) h g f a = search (rules, nonzero)
   next_of_fit (place.WalkOlder k r) h g f a = walked_ins_fit k r h (number_of g) f.0 f.1 a

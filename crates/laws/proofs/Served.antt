@@ -42,9 +42,7 @@ set_queue n q l k f h i =
     (cases_eq i l)
 
 joined_queue : (n : ℕ) (b : Book) (k : ℕ) → QueueFits n b → k < n → QueueFits n (joined b k)
-joined_queue n b k f h =
-    cond_both (ltb b.len 64) (record { t = b.t; keys = set b.keys k (row_of b k); rows = b.rows; queue = set b.queue b.len k; len = b.len + 1 }) b (QueueFits n)
-    (λ _. set_queue n b.queue b.len k f h) (λ _. f)
+joined_queue n b k f h = search (rules, set_queue)
 
 module _ (s : State) (p : 0 < s.sizes.keys) where
   abbrev n : ℕ
@@ -56,9 +54,7 @@ module _ (s : State) (p : 0 < s.sizes.keys) where
 
   first_open_fit : (b : Book) (v : Survey) (d x : ℕ) → QueueFits n b → FitJobs (first_open b v n d x)
   first_open_fit b v zero x f = tt
-  first_open_fit b v (suc d) x f =
-      cond_both (open_pair b v (pair_from b n x) (pair_to n x)) (Some (job.Pair (leg_at b n x))) (first_open b v n d (x + 1)) FitJobs
-      (λ _. (f (x / n), mod_below x n p)) (λ _. first_open_fit b v d (x + 1) f)
+  first_open_fit b v (suc d) x f = let more : FitJobs (first_open b v n d (x + 1)) = first_open_fit b v d (x + 1) f in search (rules, mod_below)
 
   go_on_fit : (v : Survey) (j : Option Job) → FitJobs j → FitOut s (go_on v j)
   go_on_fit v None f = tt
@@ -89,9 +85,7 @@ module _ (s : State) (p : 0 < s.sizes.keys) where
   key_out false b i e f = serve_from_fit b Snapshot 0 f
 
   pub walked_at_good : (b : Book) (v : Survey) (k : Job) (r : ℕ) (h : Hand) → QueueFits n b → FitJob s k → Good (walked_at b v k n r h)
-  walked_at_good b v (job.Key i) r h f k =
-      let q = joined_queue n (with_row b i r) i f k in
-      record { queue = q; out = key_out (ltb (i + 1) n) (walked_joined b i r) i refl q }
+  walked_at_good b v (job.Key i) r h f k = let q = joined_queue n (with_row b i r) i f k in record { queue = q; out = search (rules, ltb-true, serve_from_fit) }
   walked_at_good b v (job.Start i) r h f k = let q = joined_queue n (with_row b i r) i f k in search (rules, good_if, serves)
   walked_at_good b v (job.Pair l) r h f k = pair_walked_good b v l r h f k
   walked_at_good b v (job.Target l e) r h f k = resolved_good (with_row b l.to r) v l h f k.1
