@@ -1,6 +1,5 @@
 -- How a turn counts the rows that its worker has linked.
 use Rattle.std.proofs.Common.{rules, ◌≡◌, ℕ, Bool, true, false, cond, refl, ◌∙◌}
-use Rattle.std.proofs.lemmas.Bool.{cond_both}
 use Rattle.std.specs.declared.ops.ControlFlow.TheVariants.{Continue, Break}
 use Rattle.layout.specs.declared.names.Kind.{Kind}
 use Rattle.layout.specs.declared.names.Kind.TheVariants.{Vertex, Edge}
@@ -19,7 +18,7 @@ use Rattle.books.specs.declared.book.Book.{Book}
 use Rattle.books.specs.Books.{blank}
 use Rattle.books.specs.Walked.{walked_of}
 use Rattle.stepper.specs.declared.worker.Worker.{Worker}
-use Rattle.stepper.specs.Workers.{more, at, finishes, finished, linked_of, with_book, counted, arrived, followed}
+use Rattle.stepper.specs.Workers.{more, at, finished, linked_of, with_book, counted, arrived, followed}
 
 abbrev pub same_kind : Kind → Kind → Bool
 same_kind Vertex Vertex = true

@@ -1,7 +1,6 @@
 -- Where a stamp comes from: the clock had its number while the field was pending.
-use Rattle.std.proofs.Common.{◌≡◌, ℕ, ◌<◌, ◌≤◌, ◌⊎◌, List, [], ◌∷◌, length, Some, None, Ok, Err, Option, Result, sym, refl, ap, ◌∙◌, subst, inl, inr, arith}
+use Rattle.std.proofs.Common.{◌≡◌, ℕ, ◌<◌, ◌≤◌, ◌⊎◌, List, [], ◌∷◌, length, Some, None, Ok, Option, sym, refl, ap, ◌∙◌, subst, inl, inr, arith}
 use Rattle.codes.specs.declared.answer.Answer.{Answer}
-use Rattle.codes.specs.declared.refusal.Refusal.{Refusal}
 use Rattle.layout.specs.declared.sizes.Sizes.{Sizes}
 use Rattle.layout.specs.declared.names.Kind.{Kind}
 use Rattle.layout.specs.declared.names.Field.{Field}
@@ -20,12 +19,10 @@ use Rattle.places.specs.Calls.{place_first}
 use Rattle.places.specs.Marks.{pending}
 use Rattle.places.specs.Touches.{settled_field}
 use Rattle.stepper.specs.Workers.{fresh, nobody}
-use Rattle.stepper.specs.declared.request.Request.{Request}
-use Rattle.stepper.specs.declared.request.Request.TheVariants as request
 use Rattle.stepper.specs.States.{State}
 use Rattle.stepper.specs.Opening.{opened_state}
 use Rattle.stepper.specs.Turns.{worker_at, turned}
-use Rattle.stepper.specs.Requests.{turn_refused, begun_as, state_or, state_begun, stepped}
+use Rattle.stepper.specs.Requests.{begun_as, state_begun}
 use Rattle.stepper.specs.History.{Event, Traces}
 use Rattle.stepper.proofs.Stages.{Staged, StagedOr}
 use Rattle.laws.specs.Fits.{Linked, FitPlace, FitPurpose}

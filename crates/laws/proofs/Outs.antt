@@ -1,6 +1,6 @@
 -- A place that fits leads to places that fit.
 use Rattle.std.proofs.Common.{rules, ◌≡◌, ℕ, ◌<◌, Bool, true, false, cond, eqb, Some, None, Ok, Err, Option, Result, refl, inl, inr, arith}
-use Rattle.std.proofs.lemmas.Bool.{eqb-false, cond_both}
+use Rattle.std.proofs.lemmas.Bool.{eqb-false}
 use Rattle.std.specs.Option.{is_some}
 use Rattle.std.specs.declared.ops.ControlFlow.TheVariants.{Continue, Break}
 use Rattle.layout.specs.declared.names.Kind.{Kind}
@@ -31,12 +31,12 @@ use Rattle.places.specs.declared.place.Place.{Place}
 use Rattle.places.specs.declared.place.Place.TheVariants as place
 use Rattle.places.specs.declared.place.Next.{Next}
 use Rattle.places.specs.declared.place.Next.TheVariants as next
-use Rattle.places.specs.Marks.{mark_of, pending}
+use Rattle.places.specs.Marks.{mark_of}
 use Rattle.places.specs.Outs.{Out}
 use Rattle.places.specs.Touches.{head_kind, look_head, change_head, job_kind}
-use Rattle.places.specs.Rules.{look_found, checked, bound_row, alive, absent, looked_at, unless_marked, unless_marked_below, owned, lost_to, lost_link, end_done, first}
-use Rattle.places.specs.Walks.{above, walked_ins}
-use Rattle.places.specs.Nexts.{number_of, link_done, raise_done, settle_on, settled, settling, next_of}
+use Rattle.places.specs.Rules.{look_found, checked, bound_row, alive, absent, looked_at, unless_marked, unless_marked_below, owned, lost_to, lost_link, end_done}
+use Rattle.places.specs.Walks.{walked_ins}
+use Rattle.places.specs.Nexts.{number_of, link_done, raise_done, settled, settling, next_of}
 use Rattle.stepper.specs.States.{State}
 use Rattle.laws.specs.Fits.{Linked, Held, RowOrNone, HeldOrNone, FitBound, pair_head, FitLook, FitChange, FitFound, FitSurvey, FitJob, FitPurpose, FitPlace}
 use Rattle.laws.specs.Changes.{number_in}

@@ -1,7 +1,6 @@
 -- Rows that are linked, and the row that comes next.
-use Rattle.std.proofs.Common.{◌≡◌, ℕ, ◌+◌, ◌*◌, ◌<◌, ◌≤◌, ◌&&◌, ltb, Some, ap, arith}
-use Rattle.std.proofs.lemmas.Bool.{and_parts, ltb-true}
-use Rattle.std.proofs.lemmas.Option.{cond_some}
+use Rattle.std.proofs.Common.{◌≡◌, ℕ, ◌+◌, ◌*◌, ◌<◌, ◌≤◌, Some, ap, arith}
+use Rattle.std.proofs.lemmas.Bool.{ltb-true}
 use Rattle.layout.specs.declared.names.Kind.{Kind}
 use Rattle.layout.specs.declared.names.Kind.TheVariants.{Vertex, Edge}
 use Rattle.layout.specs.declared.sizes.Sizes.{Sizes}
@@ -21,19 +20,13 @@ few_rows : (z : Sizes) (k : Kind) → rows_each z k ≤ 2048
 few_rows z Vertex = omega arith
 few_rows z Edge = omega arith
 
--- the number of a row that there is, and its place among its worker's rows
-record RowIs (z : Sizes) (k : Kind) (w n r : ℕ) : Type 0 where
-  pub is : w * rows_each z k + n + 1 ≡ r
-  pub few : n < 2048
+-- the number of a row that there is
+row_is : (z : Sizes) (k : Kind) (w n r : ℕ) → row_at z k w n ≡ Some r → w * rows_each z k + n + 1 ≡ r
+row_is z k w n r e = grind arith
 
-row_is : (z : Sizes) (k : Kind) (w n r : ℕ) → row_at z k w n ≡ Some r → RowIs z k w n r
-row_is z k w n r e =
-    let p = cond_some (ltb w z.workers && ltb n (rows_each z k)) (w * rows_each z k + n + 1) r e in
-    let q = and_parts (ltb w z.workers) (ltb n (rows_each z k)) p.0 in
-    record { is = p.1; few = omega (arith, ltb-true n (rows_each z k) q.1, few_rows z k) }
-
+-- and its place among its worker's rows
 pub row_bound : (z : Sizes) (k : Kind) (w n r : ℕ) → row_at z k w n ≡ Some r → n < 2048
-row_bound z k w n r e = (row_is z k w n r e).few
+row_bound z k w n r e = grind (arith, few_rows, ltb-true)
 
 -- the row that comes next is one of the worker's own
 pub next_own_lem : (s : State) (w : ℕ) (k : Kind) (r : ℕ) → next_own s w k ≡ Some r → IsRow s.sizes k r × Owns s.sizes k w r
@@ -45,8 +38,8 @@ next_unlinked s w k r e l =
     let z = s.sizes in
     let a = own_row z k l.owner l.place r l.is in
     let o : l.owner ≡ w = one_owner z k l.owner w r a.1 (next_own_lem s w k r e).1 in
-    let p = row_is z k l.owner l.place r l.is in
-    let q = row_is z k w (linked_of (worker_at s w) k) r e in
+    let p : l.owner * rows_each z k + l.place + 1 ≡ r = row_is z k l.owner l.place r l.is in
+    let q : w * rows_each z k + linked_of (worker_at s w) k + 1 ≡ r = row_is z k w (linked_of (worker_at s w) k) r e in
     let m : l.owner * rows_each z k ≡ w * rows_each z k = ap (λ v. v * rows_each z k) o in
     let b : linked_of (worker_at s l.owner) k ≡ linked_of (worker_at s w) k = ap (λ v. linked_of (worker_at s v) k) o in
     omega (arith, l.before)

@@ -1,9 +1,6 @@
 -- Every run from an opening keeps its places fit.
-use Rattle.std.proofs.Common.{◌≡◌, ℕ, zero, suc, ◌<◌, ◌≤◌, Bool, true, false, cond, ltb, List, [], ◌∷◌, ◌++◌, length, get_or, drop, replicate, Some, None, Option, sym, refl, ◌∙◌, subst, inl, arith}
+use Rattle.std.proofs.Common.{◌≡◌, ℕ, ◌<◌, ◌≤◌, List, length, get_or, drop, replicate, refl, ◌∙◌, inl, arith}
 use Rattle.std.proofs.lemmas.List.{length-set, length-append, length-replicate, get_or-set_other, get_or_append_left}
-use Rattle.std.proofs.lemmas.Bool.{ltb-true}
-use Rattle.codes.specs.declared.refusal.Refusal.{Refusal}
-use Rattle.codes.specs.declared.refusal.Refusal.TheVariants.{NoSuchWorker, WorkerIdle}
 use Rattle.layout.specs.declared.sizes.Sizes.{Sizes}
 use Rattle.layout.specs.declared.names.Kind.{Kind}
 use Rattle.layout.specs.declared.names.Kind.TheVariants.{Vertex, Edge}
@@ -12,13 +9,10 @@ use Rattle.layout.specs.declared.names.Head.TheVariants as head
 use Rattle.layout.specs.declared.names.Cell.TheVariants as cell
 use Rattle.layout.specs.Layout.{needed, index_of, Named}
 use Rattle.layout.proofs.Regions.{index_lt}
-use Rattle.stepper.specs.declared.request.Request.{Request}
-use Rattle.stepper.specs.declared.request.Request.TheVariants as request
 use Rattle.stepper.specs.States.{State}
 use Rattle.stepper.specs.Opening.{cleared, opened_state}
-use Rattle.stepper.specs.Turns.{worker_at, turned}
+use Rattle.stepper.specs.Turns.{worker_at}
 use Rattle.stepper.specs.Workers.{fresh, nobody, linked_of}
-use Rattle.stepper.specs.Requests.{is_idle, turn_refused, begun_as, state_or, stepped}
 use Rattle.laws.specs.Fits.{FitPlace}
 use Rattle.laws.specs.Changes.{number_in}
 use Rattle.laws.specs.Sound.{Sound, RunsSound, RunsKeepLaws}

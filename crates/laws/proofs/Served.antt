@@ -1,19 +1,18 @@
 -- A book whose queue holds keys serves keys.
-use Rattle.std.proofs.Common.{rules, ◌≡◌, ℕ, zero, suc, ◌+◌, ◌-◌, ◌*◌, ◌/◌, ◌<◌, ◌≤◌, Bool, true, false, cond, ltb, List, length, get_or, set, replicate, Some, None, Option, sym, refl, ap, ◌∙◌, subst, ⊎_elim}
+use Rattle.std.proofs.Common.{rules, ◌≡◌, ℕ, zero, suc, ◌+◌, ◌-◌, ◌*◌, ◌<◌, ◌≤◌, Bool, cond, List, length, get_or, set, replicate, Some, None, Option, sym, ap, ◌∙◌, subst, ⊎_elim}
 use Rattle.std.proofs.lemmas.Nat.{mod_below}
 use Rattle.std.proofs.lemmas.List.{set_past, get_or-set_same, get_or-set_other}
 use Rattle.std.proofs.lemmas.Bool.{cases_eq, cases_lt, ltb-true, cond_both}
 use Rattle.places.specs.declared.place.Survey.{Survey}
-use Rattle.places.specs.declared.place.Survey.TheVariants.{Snapshot}
 use Rattle.places.specs.declared.place.Leg.{Leg}
 use Rattle.places.specs.declared.place.Job.{Job}
 use Rattle.places.specs.declared.place.Job.TheVariants as job
 use Rattle.places.specs.declared.place.Hand.{Hand}
 use Rattle.books.specs.declared.book.Book.{Book}
 use Rattle.books.specs.declared.walked.Entry.{Entry}
-use Rattle.books.specs.Books.{blank, row_of, with_row, joined}
-use Rattle.books.specs.Serving.{open_pair, pair_from, pair_to, leg_at, first_open, open_from, go_on, serve_from}
-use Rattle.books.specs.Walked.{Outcome, walk_of, walked_joined, resolved, pair_walked, walked_at}
+use Rattle.books.specs.Books.{blank, with_row, joined}
+use Rattle.books.specs.Serving.{first_open, open_from, go_on, serve_from}
+use Rattle.books.specs.Walked.{Outcome, resolved, pair_walked, walked_at}
 use Rattle.stepper.specs.States.{State}
 use Rattle.laws.specs.Fits.{IsKey, FitLeg, FitJob}
 use Rattle.laws.proofs.Outs.{FitOut}
@@ -79,10 +78,6 @@ module _ (s : State) (p : 0 < s.sizes.keys) where
 
   pair_walked_good : (b : Book) (v : Survey) (l : Leg) (r : ℕ) (h : Hand) → QueueFits n b → FitLeg s l → Good (pair_walked b v n l r h)
   pair_walked_good b v l r h f k = search (rules, good_if, serves, resolved_good)
-
-  key_out : (t : Bool) (b : Book) (i : ℕ) → t ≡ ltb (i + 1) n → QueueFits n b → FitOut s (cond t (walk_of Snapshot (job.Key (i + 1))) (serve_from b Snapshot n 0))
-  key_out true b i e f = ltb-true (i + 1) n (sym e)
-  key_out false b i e f = serve_from_fit b Snapshot 0 f
 
   pub walked_at_good : (b : Book) (v : Survey) (k : Job) (r : ℕ) (h : Hand) → QueueFits n b → FitJob s k → Good (walked_at b v k n r h)
   walked_at_good b v (job.Key i) r h f k = let q = joined_queue n (with_row b i r) i f k in record { queue = q; out = search (rules, ltb-true, serve_from_fit) }

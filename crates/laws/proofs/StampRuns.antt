@@ -1,15 +1,9 @@
 -- Every run keeps the laws of stamps.
-use Rattle.std.proofs.Common.{◌≡◌, ℕ, List, [], ◌∷◌, Some, None, Ok, Err, Option, Result, sym, refl, ap, ◌∙◌, ⊎_elim, arith}
-use Rattle.codes.specs.declared.refusal.Refusal.{Refusal}
+use Rattle.std.proofs.Common.{◌≡◌, ℕ, List, refl, ⊎_elim, arith}
 use Rattle.layout.specs.declared.sizes.Sizes.{Sizes}
-use Rattle.places.specs.declared.place.Call.{Call}
 use Rattle.places.specs.Marks.{pending}
-use Rattle.stepper.specs.declared.request.Request.{Request}
-use Rattle.stepper.specs.declared.request.Request.TheVariants as request
 use Rattle.stepper.specs.States.{State}
 use Rattle.stepper.specs.Opening.{opened_state}
-use Rattle.stepper.specs.Turns.{turned}
-use Rattle.stepper.specs.Requests.{turn_refused, begun_as, state_or, state_begun, stepped}
 use Rattle.stepper.specs.History.{Event, Traces}
 use Rattle.laws.specs.Fits.{Linked}
 use Rattle.laws.specs.Stamps.{IsStamp, RunsStamp}

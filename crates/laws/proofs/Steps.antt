@@ -1,24 +1,19 @@
 -- What holds of every state of a run, step by step.
-use Rattle.std.proofs.Common.{◌≡◌, ℕ, ◌<◌, Bool, true, false, cond, ltb, List, [], ◌∷◌, Some, None, Ok, Err, Option, Result, sym, refl, subst}
+use Rattle.std.proofs.Common.{rules, ◌≡◌, ℕ, ◌<◌, List, [], ◌∷◌, Some, None, Ok, Err, Option, Result, sym, refl, subst}
 use Rattle.std.proofs.lemmas.Bool.{ltb-true}
 use Rattle.codes.specs.declared.refusal.Refusal.{Refusal}
-use Rattle.codes.specs.declared.refusal.Refusal.TheVariants.{NoSuchWorker, WorkerIdle}
 use Rattle.places.specs.declared.call.Begin.{Begin}
 use Rattle.places.specs.declared.place.Call.{Call}
 use Rattle.stepper.specs.declared.request.Request.{Request}
 use Rattle.stepper.specs.declared.request.Request.TheVariants as request
 use Rattle.stepper.specs.States.{State}
-use Rattle.stepper.specs.Turns.{worker_at, turned}
-use Rattle.stepper.specs.Requests.{is_idle, turn_refused, begun_as, state_or, state_begun, stepped}
+use Rattle.stepper.specs.Turns.{turned}
+use Rattle.stepper.specs.Requests.{turn_refused, begun_as, state_or, state_begun, stepped}
 use Rattle.stepper.specs.History.{Event, Traces}
 
 -- a turn that is not refused is of a worker that there is
-taken : (a i : Bool) → cond a (cond i (Some WorkerIdle) None) (Some NoSuchWorker) ≡ None → a ≡ true
-taken true i e = refl
-taken false i e = absurd cc
-
 turn_taken : (s : State) (w : ℕ) → turn_refused s w ≡ None → w < s.sizes.workers
-turn_taken s w e = ltb-true w s.sizes.workers (taken (ltb w s.sizes.workers) (is_idle (worker_at s w).place) e)
+turn_taken s w e = search (rules, ltb-true)
 
 -- a step is a begin that is accepted or a turn that is taken, or it changes nothing
 pub step_each : (s : State) (P : State → Type 0) → P s → ((b : Begin) (c : Call) → begun_as s b ≡ Ok c → P (state_begun s b.worker (Ok c))) → ((w : ℕ) → w < s.sizes.workers → P (turned s w)) → (q : Request) → P (stepped s q)

@@ -1,5 +1,5 @@
 -- What the touch of a turn can do to a named cell.
-use Rattle.std.proofs.Common.{◌≡◌, ℕ, ◌+◌, ◌<◌, Bool, true, false, cond, List, set, Some, None, Option, sym, refl, ap, ◌∙◌, subst}
+use Rattle.std.proofs.Common.{rules, ◌≡◌, ℕ, ◌+◌, ◌<◌, List, Some, None, Option, sym, refl, ap, ◌∙◌, subst}
 use Rattle.layout.specs.declared.sizes.Sizes.{Sizes}
 use Rattle.layout.specs.declared.names.Kind.{Kind}
 use Rattle.layout.specs.declared.names.Kind.TheVariants.{Vertex, Edge}
@@ -128,13 +128,9 @@ touched_at s w c (place.Raise v) e m l f =
 touched_at s w c p e m l f = keeps refl
 
 -- a touch leaves cells enough
-swapped_enough : (z : Sizes) (cs : List ℕ) (i v : ℕ) (b : Bool) → Enough z cs → Enough z (cond b (set cs i v) cs)
-swapped_enough z cs i v true l = enough_set z cs i v l
-swapped_enough z cs i v false l = l
-
 pub enough_after : (z : Sizes) (cs : List ℕ) (t : Touch) → Enough z cs → Enough z (cells_after z cs t)
 enough_after z cs touch.Nothing l = l
 enough_after z cs (touch.Read c) l = l
-enough_after z cs (touch.Swap c old new) l = swapped_enough z cs _ new _ l
-enough_after z cs touch.Raise l = swapped_enough z cs _ _ _ l
-enough_after z cs (touch.Link d h r) l = swapped_enough z (filled z cs d h r) _ r _ (enough_filled z cs d h r l)
+enough_after z cs (touch.Swap c old new) l = search (rules, enough_set)
+enough_after z cs touch.Raise l = search (rules, enough_set)
+enough_after z cs (touch.Link d h r) l = let e = enough_filled z cs d h r l in search (rules, enough_set)
