@@ -1,10 +1,10 @@
 -- What the four bytes of a cell mean, and what writing them leaves.
 use Rattle.std.proofs.Common.{◌≡◌, ℕ, ◌+◌, ◌*◌, ◌/◌, ◌%◌, ◌^◌, ◌<◌, ◌≤◌, ◌≢◌, List, length, get_or, set, sym, ◌∙◌, ⊎_elim, arith, rules}
-use Rattle.std.proofs.lemmas.List.{get_or_past, length-set, get_or-set_same, get_or-set_other, ext_get_or, drop-set-lt}
+use Rattle.std.proofs.lemmas.List.{get_or_past, length-set, get_or-set_same, get_or-set_other, ext_get_or}
 use Rattle.std.proofs.lemmas.List.FromFn.{length-map-range_with_len, get_or-map-range_with_len}
 use Rattle.std.proofs.lemmas.Nat.{shr-shr, div-add-mod'}
 use Rattle.std.proofs.lemmas.Bool.{cases_eq, cases_lt}
-use Rattle.cells.specs.FourBytes.{word_at, words_of, spare_of}
+use Rattle.cells.specs.FourBytes.{word_at, words_of}
 
 pub length-words_of : (bs : List ℕ) → length (words_of bs) ≡ length bs / 4
 unfolding words_of
@@ -65,16 +65,6 @@ put-words_of bs i v h f =
     (λ (ne : k ≡ i → ⊥).
     get_or-words_of new k (omega arith) ∙ word_at-four_other bs i _ _ _ _ k ne ∙ sym (get_or-words_of bs k (omega arith)) ∙ sym (get_or-set_other (words_of bs) i k v 0 ne))
     (cases_eq k i))
-
--- the bytes left over are none of the four
-pub spare_of-four : (bs : List ℕ) (i a b c d : ℕ) → i < length bs / 4 → spare_of (four bs i a b c d) ≡ spare_of bs
-spare_of-four bs i a b c d h =
-    let n : ℕ = 4 * (length bs / 4) in
-    rw (length-four bs i a b c d)
-    (drop-set-lt n _ (4 * i + 3) d (omega arith)
-    ∙ drop-set-lt n _ (4 * i + 2) c (omega arith)
-    ∙ drop-set-lt n _ (4 * i + 1) b (omega arith)
-    ∙ drop-set-lt n bs (4 * i) a (omega arith))
 
 -- cells of bytes are numbers of 32 bits
 pub words_of_lt : (bs : List ℕ) → ((i : ℕ) → get_or bs i 0 < 256) → (i : ℕ) → get_or (words_of bs) i 0 < 2 ^ 32
