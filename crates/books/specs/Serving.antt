@@ -2,13 +2,14 @@
 use Rattle.std.specs.Prelude.{ℕ, zero, suc, ◌+◌, ◌-◌, ◌*◌, ◌/◌, ◌%◌, Bool, cond, not, ◌&&◌, Some, None, Option, ◌==◌, slice_index}
 use Rattle.codes.specs.declared.answer.Answer.{Answer}
 use Rattle.codes.specs.declared.answer.Answer.TheVariants.{SnapshotTaken, ReachTaken}
+use Rattle.std.specs.declared.ops.ControlFlow.TheVariants.{Continue, Break}
+use Rattle.places.specs.Outs.{Out}
 use Rattle.places.specs.declared.place.Survey.{Survey}
 use Rattle.places.specs.declared.place.Survey.TheVariants.{Snapshot, Reach}
+use Rattle.places.specs.declared.place.Leg.{Leg}
 use Rattle.places.specs.declared.place.Job.{Job}
 use Rattle.places.specs.declared.place.Job.TheVariants as job
 use Rattle.places.specs.declared.place.Place.TheVariants.{WalkHead}
-use Rattle.places.specs.declared.place.Out.{Out}
-use Rattle.places.specs.declared.place.Out.TheVariants.{Go, Done}
 use Rattle.books.specs.declared.book.Book.{Book}
 
 -- the answer of a finished page
@@ -28,12 +29,15 @@ pair_from b n x = slice_index b.queue (x / n)
 abbrev pub pair_to : ℕ → ℕ → ℕ
 pair_to n x = x % n
 
+abbrev pub leg_at : Book → ℕ → ℕ → Leg
+leg_at b n x = record { number = x; from = pair_from b n x; to = pair_to n x }
+
 -- the first pair to walk among the d pairs from number x on
 abbrev pub first_open : Book → Survey → ℕ → ℕ → ℕ → Option Job
 first_open b v n zero x = None
 first_open b v n (suc d) x =
     cond (open_pair b v (pair_from b n x) (pair_to n x))
-    (Some (job.Pair x (pair_from b n x) (pair_to n x)))
+    (Some (job.Pair (leg_at b n x)))
     (first_open b v n d (x + 1))
 
 abbrev pub open_from : Book → Survey → ℕ → ℕ → Option Job
@@ -41,8 +45,8 @@ open_from b v n x = first_open b v n (n * b.len - x) x
 
 -- the keys are served in the order in which they joined, each with the others rising; after the last the page is finished
 abbrev pub go_on : Survey → Option Job → Out
-go_on v None = Done (survey_done v)
-go_on v (Some j) = Go (WalkHead (record { survey = v; job = j }))
+go_on v None = Break (survey_done v)
+go_on v (Some j) = Continue (WalkHead (record { survey = v; job = j }))
 
 abbrev pub serve_from : Book → Survey → ℕ → ℕ → Out
 serve_from b v n x = go_on v (open_from b v n x)

@@ -1,20 +1,22 @@
 -- What follows when a walk has come to its end.
-use Rattle.std.specs.Prelude.{ℕ, ◌+◌, Bool, false, cond, not, ◌||◌, ◌==◌, nat_lt, slice_index, slice_index_or}
+use Rattle.std.specs.Prelude.{ℕ, ◌+◌, Bool, false, cond, not, ◌||◌, ◌==◌, nat_lt, slice_index}
 use Rattle.codes.specs.declared.answer.Answer.TheVariants.{VertexAbsent}
+use Rattle.std.specs.declared.ops.ControlFlow.TheVariants.{Continue, Break}
+use Rattle.places.specs.Outs.{Out}
 use Rattle.places.specs.declared.place.Survey.{Survey}
 use Rattle.places.specs.declared.place.Survey.TheVariants.{Snapshot, Reach}
+use Rattle.places.specs.declared.place.Leg.{Leg}
 use Rattle.places.specs.declared.place.Job.{Job}
 use Rattle.places.specs.declared.place.Job.TheVariants as job
 use Rattle.places.specs.declared.place.Walk.{Walk}
 use Rattle.places.specs.declared.place.Hand.{Hand}
 use Rattle.places.specs.declared.place.Place.TheVariants.{WalkHead}
-use Rattle.places.specs.declared.place.Out.{Out}
-use Rattle.places.specs.declared.place.Out.TheVariants.{Go, Done}
-use Rattle.books.specs.Books.{with_row, joined}
+use Rattle.books.specs.Books.{row_of, is_seen, with_row, joined}
 use Rattle.books.specs.Serving.{serve_from}
 use Rattle.books.specs.declared.book.Book.{Book}
 use Rattle.books.specs.declared.walked.Entry.{Entry}
 use Rattle.books.specs.declared.walked.Entry.TheVariants as entry
+use Rattle.books.specs.declared.walked.Served.{Served}
 
 -- the book after a walk, what follows, and what is written into the page
 pub record Outcome : Type 0 where
@@ -22,8 +24,11 @@ pub record Outcome : Type 0 where
   pub out : Out
   pub entry : Entry
 
+abbrev pub outcome : Book → Served → Outcome
+outcome b s = record { book = b; out = s.out; entry = s.entry }
+
 abbrev pub walk_of : Survey → Job → Out
-walk_of v j = Go (WalkHead (record { survey = v; job = j }))
+walk_of v j = Continue (WalkHead (record { survey = v; job = j }))
 
 -- a key that has had its walk joins
 abbrev pub walked_joined : Book → ℕ → ℕ → Book
@@ -41,7 +46,7 @@ key_walked b n k r = record {
 abbrev pub start_walked : Book → Survey → ℕ → ℕ → ℕ → Outcome
 start_walked b v n k r =
     cond (r == 0)
-    (record { book = b; out = Done VertexAbsent; entry = entry.Nothing })
+    (record { book = b; out = Break VertexAbsent; entry = entry.Nothing })
     (record { book = walked_joined b k r; out = serve_from (walked_joined b k r) v n 0; entry = entry.Key k r })
 
 -- only a reach lets keys join here, and each only once
@@ -50,28 +55,28 @@ joins Snapshot shown = false
 joins (Reach i) shown = shown == 0
 
 -- The target of a visible edge row has had its walk: the edge is there if its target row is the visible row of its key.
-abbrev pub resolved : Book → Survey → ℕ → ℕ → ℕ → ℕ → Hand → Outcome
-resolved b v n x i j h =
-    cond (h.target == slice_index b.rows j)
-    (cond (joins v (slice_index b.keys j))
-    (record { book = joined b j; out = serve_from (joined b j) v n (x + 1); entry = entry.Join i j h.weight (slice_index b.rows j) })
-    (record { book = b; out = serve_from b v n (x + 1); entry = entry.Pair i j h.weight }))
-    (record { book = b; out = serve_from b v n (x + 1); entry = entry.Nothing })
+abbrev pub resolved : Book → Survey → ℕ → Leg → Hand → Outcome
+resolved b v n l h =
+    cond (h.target == row_of b l.to)
+    (cond (joins v (slice_index b.keys l.to))
+    (record { book = joined b l.to; out = serve_from (joined b l.to) v n (l.number + 1); entry = entry.Join l.from l.to h.weight (row_of b l.to) })
+    (record { book = b; out = serve_from b v n (l.number + 1); entry = entry.Pair l.from l.to h.weight }))
+    (record { book = b; out = serve_from b v n (l.number + 1); entry = entry.Nothing })
 
 -- A pair: a visible row whose source is the served key's row leads to a walk of its target, once in the call.
-abbrev pub pair_walked : Book → Survey → ℕ → ℕ → ℕ → ℕ → ℕ → Hand → Outcome
-pair_walked b v n x i j r h =
-    cond (r == 0 || not (h.source == slice_index b.keys i))
-    (record { book = b; out = serve_from b v n (x + 1); entry = entry.Nothing })
-    (cond (slice_index_or b.seen j false)
-    (resolved b v n x i j h)
-    (record { book = b; out = walk_of v (job.Target x i j r); entry = entry.Nothing }))
+abbrev pub pair_walked : Book → Survey → ℕ → Leg → ℕ → Hand → Outcome
+pair_walked b v n l r h =
+    cond (r == 0 || not (h.source == slice_index b.keys l.from))
+    (record { book = b; out = serve_from b v n (l.number + 1); entry = entry.Nothing })
+    (cond (is_seen b l.to)
+    (resolved b v n l h)
+    (record { book = b; out = walk_of v (job.Target l r); entry = entry.Nothing }))
 
 abbrev pub walked_at : Book → Survey → Job → ℕ → ℕ → Hand → Outcome
 walked_at b v (job.Key k) n r h = key_walked b n k r
 walked_at b v (job.Start k) n r h = start_walked b v n k r
-walked_at b v (job.Pair x i j) n r h = pair_walked b v n x i j r h
-walked_at b v (job.Target x i j e) n r h = resolved (with_row b j r) v n x i j h
+walked_at b v (job.Pair l) n r h = pair_walked b v n l r h
+walked_at b v (job.Target l e) n r h = resolved (with_row b l.to r) v n l h
 
 abbrev pub walked_of : Book → Walk → ℕ → ℕ → Hand → Outcome
 walked_of b k n r h = walked_at b k.survey k.job n r h

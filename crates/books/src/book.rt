@@ -1,14 +1,15 @@
-// The keys that a snapshot or reach has walked, with the row then visible or 0, and the keys to serve, in the order in which they joined.
-ghost use Rattle.std.specs.Prelude.{◌≡◌, false, slice_index, slice_index_or};
-ghost use Rattle.books.specs.Books.{blank, with_row, joined};
+// The keys that a snapshot or reach has walked, with the row then visible, and the keys to serve, in the order in which they joined.
+ghost use Rattle.std.specs.Prelude.{◌≡◌, slice_index};
+ghost use Rattle.books.specs.Books.{blank, row_of, is_seen, with_row, joined};
 
-// `keys` holds what the page shows of each key. A key that has had its walk and did not join is seen, with its row, and not in `keys`.
-#[derive(Clone, Copy)]
+// `keys` holds what the page shows of each key. `rows` holds what the walk of a key found, or None before it:
+// row number 0 is none, as in the cells. A key that has had its walk and did not join is in `rows`, and not in `keys`.
+// `queue` with `len` has a fixed size: a record lies in an array of Copy records, with no heap.
+#[derive(Clone, Copy, PartialEq, Eq, Debug)]
 pub struct Book {
     pub t: u32,
     pub keys: [u32; 64],
-    pub rows: [u32; 64],
-    pub seen: [bool; 64],
+    pub rows: [Option<u32>; 64],
     pub queue: [u8; 64],
     pub len: u8,
 }
@@ -20,8 +21,7 @@ impl Book {
         Book {
             t,
             keys: [0; 64],
-            rows: [0; 64],
-            seen: [false; 64],
+            rows: [None; 64],
             queue: [0; 64],
             len: 0,
         }
@@ -31,36 +31,37 @@ impl Book {
     pub fn key(&self, k: u8) -> u32
         ensures { result ≡ slice_index self.now.keys k }
     {
-        if k < 64 { self.keys[k as usize] } else { 0 }
+        self.keys.get(k as usize).copied().unwrap_or(0)
     }
 
     // The visible row that the walk of a key found.
     pub fn row(&self, k: u8) -> u32
-        ensures { result ≡ slice_index self.now.rows k }
+        ensures { result ≡ row_of self.now k }
     {
-        if k < 64 { self.rows[k as usize] } else { 0 }
+        self.rows.get(k as usize).copied().flatten().unwrap_or(0)
     }
 
+    // Whether a key has had its walk.
     pub fn is_seen(&self, k: u8) -> bool
-        ensures { result ≡ slice_index_or self.now.seen k false }
+        ensures { result ≡ is_seen self.now k }
     {
-        if k < 64 { self.seen[k as usize] } else { false }
+        self.rows.get(k as usize).copied().flatten().is_some()
     }
 
     // The key that is served n-th.
     pub fn queued(&self, n: usize) -> u8
         ensures { result ≡ slice_index self.now.queue n }
     {
-        if n < 64 { self.queue[n] } else { 0 }
+        self.queue.get(n).copied().unwrap_or(0)
     }
 
     // A key has had its walk.
     pub fn walk(&mut self, k: u8, row: u32)
         ensures { self.new ≡ with_row self.old k row }
     {
+        // Of a slice that `get_mut` lent a proof knows no element.
         if k < 64 {
-            self.rows[k as usize] = row;
-            self.seen[k as usize] = true;
+            self.rows[k as usize] = Some(row);
         }
     }
 

@@ -5,7 +5,7 @@ ghost use Rattle.books.specs.Serving.{open_pair, open_from, serve_from, survey_d
 use crate::book::Book;
 use codes::Answer;
 use layout::sizes::Sizes;
-use places::place::{Job, Out, Place, Survey, Walk};
+use places::place::{Job, Leg, Out, Place, Survey, Walk};
 
 // The answer of a finished page.
 pub fn survey_done(survey: Survey) -> Answer
@@ -36,7 +36,11 @@ impl Book {
             let from = self.queued(x / sizes.keys);
             let to = (x % sizes.keys) as u8;
             if self.is_open(survey, from, to) {
-                return Some(Job::Pair(x as u16, from, to));
+                return Some(Job::Pair(Leg {
+                    number: x as u16,
+                    from,
+                    to,
+                }));
             }
         }
         None
@@ -47,8 +51,8 @@ impl Book {
         ensures { result ≡ serve_from self.now survey sizes.keys start }
     {
         match self.seek(survey, sizes, start) {
-            Some(job) => Out::Go(Place::WalkHead(Walk { survey, job })),
-            None => Out::Done(survey_done(survey)),
+            Some(job) => Out::Continue(Place::WalkHead(Walk { survey, job })),
+            None => Out::Break(survey_done(survey)),
         }
     }
 }

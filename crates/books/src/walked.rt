@@ -1,14 +1,14 @@
 // What follows when a walk has come to its end.
 ghost use Rattle.std.specs.Prelude.{◌≡◌};
-ghost use Rattle.books.specs.Walked.{key_walked, start_walked, pair_walked, resolved, walked_of};
+ghost use Rattle.books.specs.Walked.{outcome, key_walked, start_walked, pair_walked, resolved, walked_of};
 
 use crate::book::Book;
 use codes::Answer;
 use layout::sizes::Sizes;
-use places::place::{Hand, Job, Out, Place, Survey, Walk};
+use places::place::{Hand, Job, Leg, Out, Place, Survey, Walk};
 
 // What is written into the page: nothing; zeros; a key's row; a pair's weight; a pair's weight, and the row of its target, which joins.
-#[derive(Clone, Copy)]
+#[derive(Clone, Copy, PartialEq, Eq, Debug)]
 pub enum Entry {
     Nothing,
     Clear,
@@ -17,7 +17,7 @@ pub enum Entry {
     Join(u8, u8, u32, u32),
 }
 
-#[derive(Clone, Copy)]
+#[derive(Clone, Copy, PartialEq, Eq)]
 pub struct Served {
     pub out: Out,
     pub entry: Entry,
@@ -26,7 +26,7 @@ pub struct Served {
 impl Book {
     // A key of a snapshot: its row enters the page, and the next key is walked.
     fn key_walked(&mut self, sizes: Sizes, key: u8, row: u32) -> Served
-        ensures { record { book = self.new; out = result.out; entry = result.entry } ≡ key_walked self.old sizes.keys key row }
+        ensures { outcome self.new result ≡ key_walked self.old sizes.keys key row }
     {
         self.walk(key, row);
         self.join(key);
@@ -34,7 +34,7 @@ impl Book {
         if key as usize + 1 < sizes.keys {
             let job = Job::Key(key + 1);
             return Served {
-                out: Out::Go(Place::WalkHead(Walk {
+                out: Out::Continue(Place::WalkHead(Walk {
                     survey: Survey::Snapshot,
                     job,
                 })),
@@ -49,11 +49,11 @@ impl Book {
 
     // The start of a reach: the first to join.
     fn start_walked(&mut self, survey: Survey, sizes: Sizes, key: u8, row: u32) -> Served
-        ensures { record { book = self.new; out = result.out; entry = result.entry } ≡ start_walked self.old survey sizes.keys key row }
+        ensures { outcome self.new result ≡ start_walked self.old survey sizes.keys key row }
     {
         if row == 0 {
             return Served {
-                out: Out::Done(Answer::VertexAbsent),
+                out: Out::Break(Answer::VertexAbsent),
                 entry: Entry::Nothing,
             };
         }
@@ -66,19 +66,11 @@ impl Book {
     }
 
     // The target of a visible edge row has had its walk: the edge is there if its target row is the visible one.
-    fn resolve(
-        &mut self,
-        survey: Survey,
-        sizes: Sizes,
-        x: u16,
-        from: u8,
-        to: u8,
-        hand: Hand,
-    ) -> Served
-        ensures { record { book = self.new; out = result.out; entry = result.entry } ≡ resolved self.old survey sizes.keys x from to hand }
+    fn resolve(&mut self, survey: Survey, sizes: Sizes, leg: Leg, hand: Hand) -> Served
+        ensures { outcome self.new result ≡ resolved self.old survey sizes.keys leg hand }
     {
-        let row = self.row(to);
-        let start = x as usize + 1;
+        let row = self.row(leg.to);
+        let start = leg.number as usize + 1;
         if hand.target != row {
             return Served {
                 out: self.serve(survey, sizes, start),
@@ -86,16 +78,16 @@ impl Book {
             };
         }
         match survey {
-            Survey::Reach(_) if self.key(to) == 0 => {
-                self.join(to);
+            Survey::Reach(_) if self.key(leg.to) == 0 => {
+                self.join(leg.to);
                 Served {
                     out: self.serve(survey, sizes, start),
-                    entry: Entry::Join(from, to, hand.weight, row),
+                    entry: Entry::Join(leg.from, leg.to, hand.weight, row),
                 }
             }
             _ => Served {
                 out: self.serve(survey, sizes, start),
-                entry: Entry::Pair(from, to, hand.weight),
+                entry: Entry::Pair(leg.from, leg.to, hand.weight),
             },
         }
     }
@@ -105,41 +97,39 @@ impl Book {
         &mut self,
         survey: Survey,
         sizes: Sizes,
-        x: u16,
-        from: u8,
-        to: u8,
+        leg: Leg,
         row: u32,
         hand: Hand,
     ) -> Served
-        ensures { record { book = self.new; out = result.out; entry = result.entry } ≡ pair_walked self.old survey sizes.keys x from to row hand }
+        ensures { outcome self.new result ≡ pair_walked self.old survey sizes.keys leg row hand }
     {
-        if row == 0 || hand.source != self.key(from) {
+        if row == 0 || hand.source != self.key(leg.from) {
             return Served {
-                out: self.serve(survey, sizes, x as usize + 1),
+                out: self.serve(survey, sizes, leg.number as usize + 1),
                 entry: Entry::Nothing,
             };
         }
-        if self.is_seen(to) {
-            return self.resolve(survey, sizes, x, from, to, hand);
+        if self.is_seen(leg.to) {
+            return self.resolve(survey, sizes, leg, hand);
         }
-        let job = Job::Target(x, from, to, row);
+        let job = Job::Target(leg, row);
         Served {
-            out: Out::Go(Place::WalkHead(Walk { survey, job })),
+            out: Out::Continue(Place::WalkHead(Walk { survey, job })),
             entry: Entry::Nothing,
         }
     }
 
-    // `row` is the visible row, or 0.
+    // `row` is the visible row; row number 0 is none, as in the cells.
     pub fn walked(&mut self, walk: Walk, sizes: Sizes, row: u32, hand: Hand) -> Served
-        ensures { record { book = self.new; out = result.out; entry = result.entry } ≡ walked_of self.old walk sizes.keys row hand }
+        ensures { outcome self.new result ≡ walked_of self.old walk sizes.keys row hand }
     {
         match walk.job {
             Job::Key(key) => self.key_walked(sizes, key, row),
             Job::Start(key) => self.start_walked(walk.survey, sizes, key, row),
-            Job::Pair(x, from, to) => self.pair_walked(walk.survey, sizes, x, from, to, row, hand),
-            Job::Target(x, from, to, _) => {
-                self.walk(to, row);
-                self.resolve(walk.survey, sizes, x, from, to, hand)
+            Job::Pair(leg) => self.pair_walked(walk.survey, sizes, leg, row, hand),
+            Job::Target(leg, _) => {
+                self.walk(leg.to, row);
+                self.resolve(walk.survey, sizes, leg, hand)
             }
         }
     }

@@ -20,10 +20,10 @@ pub enum Answer {
     ClockSpent = 0x41,
 }
 
-impl Answer {
-    pub fn code(self) -> u8
-        ensures { result ≡ answer_code self }
-    {
-        self as u8
+impl From<Answer> for u8 {
+    ghost from_gives = { λ from made. made ≡ answer_code from };
+
+    fn from(answer: Answer) -> u8 {
+        answer as u8
     }
 }

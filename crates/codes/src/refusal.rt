@@ -19,10 +19,10 @@ pub enum Refusal {
     NoFrame = 0xED,
 }
 
-impl Refusal {
-    pub fn code(self) -> u8
-        ensures { result ≡ refusal_code self }
-    {
-        self as u8
+impl From<Refusal> for u8 {
+    ghost from_gives = { λ from made. made ≡ refusal_code from };
+
+    fn from(refusal: Refusal) -> u8 {
+        refusal as u8
     }
 }

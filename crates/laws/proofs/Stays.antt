@@ -60,15 +60,9 @@ same_row k l r q (cell.PageKey u i) a b = absurd a
 same_row k l r q (cell.PagePair u i j) a b = absurd a
 
 same_page : (v w : ℕ) (c : Cell) → OnPage v c → OnPage w c → v ≡ w
-same_page v w cell.Clock a b = absurd a
-same_page v w (cell.Head h) a b = absurd a
-same_page v w (cell.Older k r) a b = absurd a
-same_page v w (cell.Stamp k f r) a b = absurd a
-same_page v w (cell.Source r) a b = absurd a
-same_page v w (cell.Target r) a b = absurd a
-same_page v w (cell.Weight r) a b = absurd a
 same_page v w (cell.PageKey u i) a b = sym a ∙ b
 same_page v w (cell.PagePair u i j) a b = sym a ∙ b
+same_page v w c a b = absurd a
 
 -- a cell that holds no stamp
 abbrev NoStamp : Cell → Type 0

@@ -17,15 +17,9 @@ use Rattle.stepper.specs.Turns.{worker_at, cell_at, next_row}
 
 -- a cell of worker w's page
 abbrev pub OnPage : ℕ → Cell → Type 0
-OnPage w cell.Clock = ⊥
-OnPage w (cell.Head h) = ⊥
-OnPage w (cell.Older k r) = ⊥
-OnPage w (cell.Stamp k f r) = ⊥
-OnPage w (cell.Source r) = ⊥
-OnPage w (cell.Target r) = ⊥
-OnPage w (cell.Weight r) = ⊥
 OnPage w (cell.PageKey v k) = v ≡ w
 OnPage w (cell.PagePair v i j) = v ≡ w
+OnPage w c = ⊥
 
 -- a cell of row r of kind k
 abbrev pub OfRow : Kind → ℕ → Cell → Type 0

@@ -3,6 +3,7 @@ use Rattle.std.specs.Prelude.{ℕ, Bool, cond, ◌&&◌, Ok, Err, Result, nat_le
 use Rattle.codes.specs.declared.refusal.Refusal.{Refusal}
 use Rattle.codes.specs.declared.refusal.Refusal.TheVariants.{SizeOutside}
 use Rattle.layout.specs.declared.sizes.Sizes.{Sizes}
+use Rattle.layout.specs.declared.opening.Opening.{Opening}
 
 abbrev pub between : ℕ → ℕ → ℕ → Bool
 between low x high = nat_le low x && nat_le x high
@@ -25,3 +26,7 @@ numbers_of (Err e) = Err e
 -- sizes within their limits are made as they are; others are refused
 abbrev pub sized : ℕ → ℕ → ℕ → ℕ → ℕ → Result Numbers Refusal
 sized n w a b t = cond (lawful n w a b t) (Ok (record { keys = n; workers = w; vrows = a; erows = b; top = t })) (Err SizeOutside)
+
+-- what an opening asks for
+abbrev pub sized_as : Opening → Result Numbers Refusal
+sized_as o = sized o.keys o.workers o.vrows o.erows o.top

@@ -4,5 +4,6 @@
 pub mod index;
 pub mod laws;
 pub mod names;
+pub mod opening;
 pub mod rows;
 pub mod sizes;

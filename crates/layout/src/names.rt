@@ -1,28 +1,28 @@
 // The names of the cells.
 
 // The two sorts of rows. Vertex rows and edge rows are numbered apart, from 1; row 0 is none.
-#[derive(Clone, Copy, PartialEq, Eq)]
+#[derive(Clone, Copy, PartialEq, Eq, Debug)]
 pub enum Kind {
     Vertex,
     Edge,
 }
 
 // The two fields of a row that hold stamps.
-#[derive(Clone, Copy, PartialEq, Eq)]
+#[derive(Clone, Copy, PartialEq, Eq, Debug)]
 pub enum Field {
     Ins,
     Del,
 }
 
 // The head of a key's rows, or of a pair's.
-#[derive(Clone, Copy)]
+#[derive(Clone, Copy, PartialEq, Eq, Debug)]
 pub enum Head {
     Vertex(u8),
     Edge(u8, u8),
 }
 
 // Keys and workers count from 0.
-#[derive(Clone, Copy)]
+#[derive(Clone, Copy, PartialEq, Eq, Debug)]
 pub enum Cell {
     Clock,
     Head(Head),

@@ -2,7 +2,7 @@
 ghost use Rattle.std.specs.Prelude.{◌≤◌};
 
 // `vrows` and `erows` are the vertex rows and the edge rows of each worker, `top` the greatest clock.
-#[derive(Clone, Copy)]
+#[derive(Clone, Copy, PartialEq, Eq, Debug)]
 pub struct Sizes {
     pub keys: usize,
     pub workers: usize,

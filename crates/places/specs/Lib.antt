@@ -1,4 +1,5 @@
 pub mod Marks
+pub mod Outs
 pub mod Calls
 pub mod Touches
 pub mod Rules

@@ -1,5 +1,5 @@
 -- The numbers of ins and del: 0 is not ended, one number is pending, the others are stamps.
-use Rattle.std.specs.Prelude.{ℕ, cond, ◌==◌}
+use Rattle.std.specs.Prelude.{ℕ, cond, Some, None, Option, ◌==◌}
 use Rattle.places.specs.declared.mark.Mark.{Mark}
 use Rattle.places.specs.declared.mark.Mark.TheVariants.{NotEnded, Pending, Stamp}
 
@@ -9,8 +9,6 @@ pending = 4294967295
 abbrev pub mark_of : ℕ → Mark
 mark_of n = cond (n == 0) NotEnded (cond (n == pending) Pending (Stamp n))
 
--- the stamp, or 0 where there is none
-abbrev pub stamp_of : Mark → ℕ
-stamp_of NotEnded = 0
-stamp_of Pending = 0
-stamp_of (Stamp n) = n
+abbrev pub stamp_of : Mark → Option ℕ
+stamp_of (Stamp n) = Some n
+stamp_of m = None

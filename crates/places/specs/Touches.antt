@@ -1,5 +1,5 @@
 -- Which operation on which named cell a turn does.
-use Rattle.std.specs.Prelude.{ℕ, cond, ◌==◌}
+use Rattle.std.specs.Prelude.{ℕ, Some, None, Option}
 use Rattle.layout.specs.declared.names.Kind.{Kind}
 use Rattle.layout.specs.declared.names.Kind.TheVariants as kind
 use Rattle.layout.specs.declared.names.Field.TheVariants.{Ins, Del}
@@ -8,6 +8,9 @@ use Rattle.layout.specs.declared.names.Head.TheVariants as head
 use Rattle.layout.specs.declared.names.Cell.{Cell}
 use Rattle.layout.specs.declared.names.Cell.TheVariants as cell
 use Rattle.places.specs.Marks.{pending}
+use Rattle.places.specs.declared.place.Bound.{Bound}
+use Rattle.places.specs.declared.place.Side.{Side}
+use Rattle.places.specs.declared.place.Side.TheVariants.{Source, Target}
 use Rattle.places.specs.declared.place.Look.{Look}
 use Rattle.places.specs.declared.place.Look.TheVariants as look
 use Rattle.places.specs.declared.place.Change.{Change}
@@ -23,12 +26,17 @@ use Rattle.places.specs.declared.place.Place.TheVariants as place
 use Rattle.places.specs.declared.place.Touch.{Touch}
 use Rattle.places.specs.declared.place.Touch.TheVariants as touch
 
+-- the row of the vertex at one end of an edge
+abbrev pub side_row : Bound → Side → ℕ
+side_row b Source = b.source
+side_row b Target = b.target
+
 -- a vertex call looks at its vertex; an edge call at its source, its target, then its pair
 abbrev pub look_head : Look → Head
 look_head (look.Vertex o i) = head.Vertex i
 look_head (look.Source o p) = head.Vertex p.from
 look_head (look.Target o p s) = head.Vertex p.to
-look_head (look.Edge o p s d) = head.Edge p.from p.to
+look_head (look.Edge o b) = head.Edge (b.pair.from) (b.pair.to)
 
 abbrev pub head_kind : Head → Kind
 head_kind (head.Vertex i) = kind.Vertex
@@ -39,7 +47,7 @@ look_kind l = head_kind (look_head l)
 
 abbrev pub change_head : Change → Head
 change_head (change.Vertex i) = head.Vertex i
-change_head (change.Edge p s d) = head.Edge p.from p.to
+change_head (change.Edge b) = head.Edge (b.pair.from) (b.pair.to)
 
 abbrev pub change_kind : Change → Kind
 change_kind c = head_kind (change_head c)
@@ -47,26 +55,22 @@ change_kind c = head_kind (change_head c)
 abbrev pub job_head : Job → Head
 job_head (job.Key i) = head.Vertex i
 job_head (job.Start i) = head.Vertex i
-job_head (job.Pair x i j) = head.Edge i j
-job_head (job.Target x i j e) = head.Vertex j
+job_head (job.Pair l) = head.Edge l.from l.to
+job_head (job.Target l e) = head.Vertex l.to
 
 abbrev pub job_kind : Job → Kind
 job_kind j = head_kind (job_head j)
 
 -- the field that is settled
 abbrev pub settled_field : Purpose → Cell
-settled_field (purpose.LookIns l r) = cell.Stamp (look_kind l) Ins r
-settled_field (purpose.LookDel l r) = cell.Stamp (look_kind l) Del r
+settled_field (purpose.Look f l r) = cell.Stamp (look_kind l) f r
 settled_field (purpose.Own f c r) = cell.Stamp (change_kind c) f r
 settled_field (purpose.LostDel c r) = cell.Stamp (change_kind c) Del r
 settled_field (purpose.WonIns i r) = cell.Stamp kind.Vertex Ins r
-settled_field (purpose.BindAgain o p s d) = cell.Stamp kind.Vertex Del s
-settled_field (purpose.AgainSource o p s d f) = cell.Stamp kind.Vertex Del s
-settled_field (purpose.AgainTarget o p s d f) = cell.Stamp kind.Vertex Del d
-settled_field (purpose.CompareSource p s d f e x) = cell.Stamp kind.Vertex Del s
-settled_field (purpose.CompareTarget p s d f e x) = cell.Stamp kind.Vertex Del d
-settled_field (purpose.WalkIns k r) = cell.Stamp (job_kind k.job) Ins r
-settled_field (purpose.WalkDel k r) = cell.Stamp (job_kind k.job) Del r
+settled_field (purpose.BindAgain o b) = cell.Stamp kind.Vertex Del b.source
+settled_field (purpose.Again s o b f) = cell.Stamp kind.Vertex Del (side_row b s)
+settled_field (purpose.Compare s b f e x) = cell.Stamp kind.Vertex Del (side_row b s)
+settled_field (purpose.Walk f k r) = cell.Stamp (job_kind k.job) f r
 
 -- to settle a field: read it; read the clock; swap pending for that number; read it again
 abbrev pub settles : Cell → Stage → Touch
@@ -76,11 +80,15 @@ settles f (stage.Swap n) = touch.Swap f pending n
 settles f stage.Again = touch.Read f
 
 -- a link touches nothing where no row is left
-abbrev pub touch_of : Place → ℕ → Touch
+abbrev pub link_touch : Change → ℕ → Option ℕ → Touch
+link_touch c h None = touch.Nothing
+link_touch c h (Some r) = touch.Link c h r
+
+abbrev pub touch_of : Place → Option ℕ → Touch
 touch_of place.Idle spare = touch.Nothing
 touch_of (place.Head l) spare = touch.Read (cell.Head (look_head l))
 touch_of (place.Settle st p) spare = settles (settled_field p) st
-touch_of (place.Link c h) spare = cond (spare == 0) touch.Nothing (touch.Link c h spare)
+touch_of (place.Link c h) spare = link_touch c h spare
 touch_of (place.End c r) spare = touch.Swap (cell.Stamp (change_kind c) Del r) 0 pending
 touch_of (place.LostHead i) spare = touch.Read (cell.Head (head.Vertex i))
 touch_of (place.Raise v) spare = touch.Raise

@@ -1,5 +1,7 @@
 -- To walk a head: read it, settle the first row's ins, go to older rows while ins is above t, settle del of the first row that is not.
 use Rattle.std.specs.Prelude.{ℕ, Bool, true, false, cond, ◌==◌, nat_lt}
+use Rattle.std.specs.declared.ops.ControlFlow.TheVariants.{Continue}
+use Rattle.layout.specs.declared.names.Field.TheVariants.{Ins, Del}
 use Rattle.places.specs.Marks.{mark_of}
 use Rattle.places.specs.Rules.{first}
 use Rattle.places.specs.declared.mark.Mark.{Mark}
@@ -12,7 +14,6 @@ use Rattle.places.specs.declared.place.Walk.{Walk}
 use Rattle.places.specs.declared.place.Hand.{Hand}
 use Rattle.places.specs.declared.place.Purpose.TheVariants as purpose
 use Rattle.places.specs.declared.place.Place.TheVariants as place
-use Rattle.places.specs.declared.place.Out.TheVariants.{Go}
 use Rattle.places.specs.declared.place.Next.{Next}
 use Rattle.places.specs.declared.place.Next.TheVariants as next
 
@@ -23,7 +24,7 @@ first_job (Reach i) = job.Start i
 
 -- a walk that comes to row 0 finds nothing visible
 abbrev pub walked_head : Walk → ℕ → Next
-walked_head k r = cond (r == 0) (next.Walked k 0) (next.Out (first (purpose.WalkIns k r)))
+walked_head k r = cond (r == 0) (next.Walked k 0) (next.Out (first (purpose.Walk Ins k r)))
 
 abbrev pub above : ℕ → Mark → Bool
 above t NotEnded = false
@@ -33,8 +34,8 @@ above t (Stamp n) = nat_lt t n
 abbrev pub walked_ins : Walk → ℕ → Hand → ℕ → Next
 walked_ins k r h n =
     cond (above h.t (mark_of n))
-    (cond (h.older == 0) (next.Walked k 0) (next.Out (Go (place.WalkOlder k h.older))))
-    (next.Out (first (purpose.WalkDel k r)))
+    (cond (h.older == 0) (next.Walked k 0) (next.Out (Continue (place.WalkOlder k h.older))))
+    (next.Out (first (purpose.Walk Del k r)))
 
 -- visible if del is 0 or above t
 abbrev pub visible : ℕ → Mark → Bool

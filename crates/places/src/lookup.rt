@@ -1,9 +1,9 @@
 // What follows once a look, a bind or a check again has decided.
 ghost use Rattle.std.specs.Prelude.{◌≡◌};
-ghost use Rattle.places.specs.Rules.{look_found, checked, alive, absent, looked, unless_ended, unless_below, owned, lost_to, first};
+ghost use Rattle.places.specs.Rules.{look_found, bound_row, checked, alive, absent, looked, unless_ended, unless_below, owned, lost_to, first};
 
 use crate::mark::Mark;
-use crate::place::{Change, Found, Hand, Look, Op, Out, Pair, Place, Purpose, Stage};
+use crate::place::{Bound, Change, Found, Hand, Look, Op, Out, Place, Purpose, Side, Stage};
 use codes::Answer;
 use layout::names::Field;
 
@@ -11,30 +11,43 @@ use layout::names::Field;
 pub fn settle(purpose: Purpose) -> Out
     ensures { result ≡ first purpose }
 {
-    Out::Go(Place::Settle(Stage::First, purpose))
+    Out::Continue(Place::Settle(Stage::First, purpose))
 }
 
 impl Op {
     // After the look at an edge: only a remove that found it does not check again.
-    fn look_found(self, pair: Pair, s: u32, d: u32, found: Found) -> Out
-        ensures { result ≡ look_found self pair s d found }
+    fn look_found(self, bound: Bound, found: Found) -> Out
+        ensures { result ≡ look_found self bound found }
     {
         match (self, found) {
-            (Op::Remove, Found::Hit(row)) => Out::Go(Place::End(Change::Edge(pair, s, d), row)),
-            _ => settle(Purpose::AgainSource(self, pair, s, d, found)),
+            (Op::Remove, Ok(row)) => Out::Continue(Place::End(Change::Edge(bound), row)),
+            _ => settle(Purpose::Again(Side::Source, self, bound, found)),
         }
     }
 
     // After checking again.
-    pub fn checked(self, pair: Pair, s: u32, d: u32, found: Found) -> Out
-        ensures { result ≡ checked self pair s d found }
+    pub fn checked(self, bound: Bound, found: Found) -> Out
+        ensures { result ≡ checked self bound found }
     {
         match (self, found) {
-            (Op::Add, Found::Miss(head)) => Out::Go(Place::Link(Change::Edge(pair, s, d), head)),
-            (Op::Add, Found::Hit(_)) => Out::Done(Answer::EdgeAlready),
-            (Op::Contains, Found::Hit(_)) => Out::Done(Answer::EdgePresent),
-            (Op::Remove, Found::Hit(row)) => Out::Go(Place::End(Change::Edge(pair, s, d), row)),
-            (_, Found::Miss(_)) => Out::Done(Answer::EdgeAbsent),
+            (Op::Add, Err(head)) => Out::Continue(Place::Link(Change::Edge(bound), head)),
+            (Op::Add, Ok(_)) => Out::Break(Answer::EdgeAlready),
+            (Op::Contains, Ok(_)) => Out::Break(Answer::EdgePresent),
+            (Op::Remove, Ok(row)) => Out::Continue(Place::End(Change::Edge(bound), row)),
+            (_, Err(_)) => Out::Break(Answer::EdgeAbsent),
+        }
+    }
+}
+
+impl Bound {
+    // Whether an edge row is the edge: its two rows are the bound ones.
+    fn found(self, row: u32, hand: Hand) -> Found
+        ensures { result ≡ bound_row self row hand }
+    {
+        if hand.source == self.source && hand.target == self.target {
+            Ok(row)
+        } else {
+            Err(row)
         }
     }
 }
@@ -45,24 +58,19 @@ impl Look {
         ensures { result ≡ alive self row hand }
     {
         match self {
-            Look::Vertex(Op::Add, _) => Out::Done(Answer::VertexAlready),
-            Look::Vertex(Op::Remove, i) => Out::Go(Place::End(Change::Vertex(i), row)),
-            Look::Vertex(Op::Contains, _) => Out::Done(Answer::VertexPresent),
-            Look::Source(op, pair) => Out::Go(Place::Head(Look::Target(op, pair, row))),
-            Look::Target(op, pair, s) => settle(Purpose::BindAgain(op, pair, s, row)),
-            Look::Edge(op, pair, s, d) => {
-                let bound = hand.source == s && hand.target == d;
-                op.look_found(
+            Look::Vertex(Op::Add, _) => Out::Break(Answer::VertexAlready),
+            Look::Vertex(Op::Remove, i) => Out::Continue(Place::End(Change::Vertex(i), row)),
+            Look::Vertex(Op::Contains, _) => Out::Break(Answer::VertexPresent),
+            Look::Source(op, pair) => Out::Continue(Place::Head(Look::Target(op, pair, row))),
+            Look::Target(op, pair, source) => settle(Purpose::BindAgain(
+                op,
+                Bound {
                     pair,
-                    s,
-                    d,
-                    if bound {
-                        Found::Hit(row)
-                    } else {
-                        Found::Miss(row)
-                    },
-                )
-            }
+                    source,
+                    target: row,
+                },
+            )),
+            Look::Edge(op, bound) => op.look_found(bound, bound.found(row, hand)),
         }
     }
 
@@ -71,9 +79,9 @@ impl Look {
         ensures { result ≡ absent self head }
     {
         match self {
-            Look::Vertex(Op::Add, i) => Out::Go(Place::Link(Change::Vertex(i), head)),
-            Look::Edge(op, pair, s, d) => op.look_found(pair, s, d, Found::Miss(head)),
-            _ => Out::Done(Answer::VertexAbsent),
+            Look::Vertex(Op::Add, i) => Out::Continue(Place::Link(Change::Vertex(i), head)),
+            Look::Edge(op, bound) => op.look_found(bound, Err(head)),
+            _ => Out::Break(Answer::VertexAbsent),
         }
     }
 
@@ -81,7 +89,7 @@ impl Look {
     pub fn looked(self, row: u32, hand: Hand, del: u32) -> Out
         ensures { result ≡ looked self row hand del }
     {
-        match Mark::of(del) {
+        match Mark::from(del) {
             Mark::NotEnded => self.alive(row, hand),
             _ => self.absent(row),
         }
@@ -92,9 +100,9 @@ impl Look {
 pub fn unless_ended(del: u32, on: Out) -> Out
     ensures { result ≡ unless_ended del on }
 {
-    match Mark::of(del) {
+    match Mark::from(del) {
         Mark::NotEnded => on,
-        _ => Out::Done(Answer::VertexAbsent),
+        _ => Out::Break(Answer::VertexAbsent),
     }
 }
 
@@ -102,8 +110,8 @@ pub fn unless_ended(del: u32, on: Out) -> Out
 pub fn unless_below(x: u32, del: u32, on: Out) -> Out
     ensures { result ≡ unless_below x del on }
 {
-    match Mark::of(del) {
-        Mark::Stamp(n) if n < x => Out::Done(Answer::VertexAbsent),
+    match Mark::from(del) {
+        Mark::Stamp(n) if n < x => Out::Break(Answer::VertexAbsent),
         _ => on,
     }
 }
@@ -114,15 +122,14 @@ impl Change {
         ensures { result ≡ owned field self row number }
     {
         match (self, field) {
-            (Change::Vertex(_), Field::Ins) => Out::Done(Answer::VertexAdded),
-            (Change::Vertex(_), Field::Del) => Out::Done(Answer::VertexRemoved),
-            (Change::Edge(pair, s, d), _) => settle(Purpose::CompareSource(
-                pair,
-                s,
-                d,
+            (Change::Vertex(_), Field::Ins) => Out::Break(Answer::VertexAdded),
+            (Change::Vertex(_), Field::Del) => Out::Break(Answer::VertexRemoved),
+            (Change::Edge(bound), _) => settle(Purpose::Compare(
+                Side::Source,
+                bound,
                 field,
                 row,
-                Mark::of(number).stamp(),
+                Mark::from(number).stamp().unwrap_or(0),
             )),
         }
     }
@@ -132,13 +139,12 @@ impl Change {
         ensures { result ≡ lost_to self row }
     {
         match self {
-            Change::Vertex(_) => Out::Done(Answer::VertexAbsent),
-            Change::Edge(pair, s, d) => settle(Purpose::AgainSource(
+            Change::Vertex(_) => Out::Break(Answer::VertexAbsent),
+            Change::Edge(bound) => settle(Purpose::Again(
+                Side::Source,
                 Op::Remove,
-                pair,
-                s,
-                d,
-                Found::Miss(row),
+                bound,
+                Err(row),
             )),
         }
     }

@@ -5,7 +5,7 @@ ghost use Rattle.places.specs.Rules.{edge_changed, end_done, lost_link};
 
 use crate::lookup::{settle, unless_below, unless_ended};
 use crate::mark::PENDING;
-use crate::place::{Change, Got, Hand, Look, Next, Op, Out, Place, Purpose, Stage};
+use crate::place::{Change, Got, Hand, Look, Next, Op, Out, Place, Purpose, Side, Stage};
 use codes::Answer;
 use layout::names::Field;
 
@@ -13,7 +13,7 @@ use layout::names::Field;
 fn settle_on(stage: Stage, purpose: Purpose) -> Next
     ensures { result ≡ settle_on stage purpose }
 {
-    Next::Out(Out::Go(Place::Settle(stage, purpose)))
+    Next::Out(Out::Continue(Place::Settle(stage, purpose)))
 }
 
 // The answer of a change of an edge.
@@ -31,19 +31,19 @@ impl Change {
         ensures { result ≡ lost_link self }
     {
         match self {
-            Change::Vertex(i) => Out::Go(Place::LostHead(i)),
-            Change::Edge(pair, _, _) => Out::Go(Place::Head(Look::Source(Op::Add, pair))),
+            Change::Vertex(i) => Out::Continue(Place::LostHead(i)),
+            Change::Edge(bound) => Out::Continue(Place::Head(Look::Source(Op::Add, bound.pair))),
         }
     }
 
     // After a link turn.
-    fn link_done(self, spare: u32, done: bool) -> Next
+    fn link_done(self, spare: Option<u32>, done: bool) -> Next
         ensures { result ≡ link_done self spare done }
     {
         match spare {
-            0 => Next::Out(Out::Done(Answer::RowsSpent)),
-            row if done => Next::Linked(self, row),
-            _ => Next::Out(self.lost_link()),
+            None => Next::Out(Out::Break(Answer::RowsSpent)),
+            Some(row) if done => Next::Linked(self, row),
+            Some(_) => Next::Out(self.lost_link()),
         }
     }
 
@@ -65,37 +65,34 @@ impl Purpose {
         ensures { result ≡ settled self hand number }
     {
         match self {
-            Purpose::WalkIns(walk, row) => walk.ins_read(row, hand, number),
-            Purpose::WalkDel(walk, row) => walk.del_read(row, hand, number),
-            Purpose::LookIns(look, row) => Next::Out(settle(Purpose::LookDel(look, row))),
-            Purpose::LookDel(look, row) => Next::Out(look.looked(row, hand, number)),
+            Purpose::Walk(Field::Ins, walk, row) => walk.ins_read(row, hand, number),
+            Purpose::Walk(Field::Del, walk, row) => walk.del_read(row, hand, number),
+            Purpose::Look(Field::Ins, look, row) => {
+                Next::Out(settle(Purpose::Look(Field::Del, look, row)))
+            }
+            Purpose::Look(Field::Del, look, row) => Next::Out(look.looked(row, hand, number)),
             Purpose::Own(field, change, row) => Next::Out(change.owned(field, row, number)),
             Purpose::LostDel(change, row) => Next::Out(change.lost_to(row)),
-            Purpose::WonIns(_, _) => Next::Out(Out::Done(Answer::VertexAlready)),
-            Purpose::BindAgain(op, pair, s, d) => Next::Out(unless_ended(
+            Purpose::WonIns(_, _) => Next::Out(Out::Break(Answer::VertexAlready)),
+            Purpose::BindAgain(op, bound) => Next::Out(unless_ended(
                 number,
-                Out::Go(Place::Head(Look::Edge(op, pair, s, d))),
+                Out::Continue(Place::Head(Look::Edge(op, bound))),
             )),
-            Purpose::AgainSource(op, pair, s, d, found) => Next::Out(unless_ended(
+            Purpose::Again(Side::Source, op, bound, found) => Next::Out(unless_ended(
                 number,
-                settle(Purpose::AgainTarget(op, pair, s, d, found)),
+                settle(Purpose::Again(Side::Target, op, bound, found)),
             )),
-            Purpose::AgainTarget(op, pair, s, d, found) => Next::Out(unless_ended(
-                number,
-                op.checked(pair, s, d, found),
-            )),
-            Purpose::CompareSource(pair, s, d, field, row, x) => {
-                Next::Out(unless_below(
-                    x,
-                    number,
-                    settle(Purpose::CompareTarget(pair, s, d, field, row, x)),
-                ))
+            Purpose::Again(Side::Target, op, bound, found) => {
+                Next::Out(unless_ended(number, op.checked(bound, found)))
             }
-            Purpose::CompareTarget(_, _, _, field, _, x) => Next::Out(unless_below(
+            Purpose::Compare(Side::Source, bound, field, row, x) => Next::Out(unless_below(
                 x,
                 number,
-                Out::Done(edge_changed(field)),
+                settle(Purpose::Compare(Side::Target, bound, field, row, x)),
             )),
+            Purpose::Compare(Side::Target, _, field, _, x) => {
+                Next::Out(unless_below(x, number, Out::Break(edge_changed(field))))
+            }
         }
     }
 }
@@ -104,19 +101,19 @@ impl Place {
     pub fn next(&self, hand: Hand, got: Got) -> Next
         ensures { result ≡ next_of self.now hand got }
     {
-        match (*self, got.number) {
-            (Place::Idle, _) => Next::Out(Out::Go(Place::Idle)),
+        match (*self, got.unwrap_or(0)) {
+            (Place::Idle, _) => Next::Out(Out::Continue(Place::Idle)),
             (Place::Head(look), 0) => Next::Out(look.absent(0)),
-            (Place::Head(look), row) => Next::Out(settle(Purpose::LookIns(look, row))),
+            (Place::Head(look), row) => Next::Out(settle(Purpose::Look(Field::Ins, look, row))),
             (Place::Settle(Stage::First, purpose), PENDING) => settle_on(Stage::Clock, purpose),
             (Place::Settle(Stage::Clock, purpose), stamp) => settle_on(Stage::Swap(stamp), purpose),
             (Place::Settle(Stage::Swap(_), purpose), _) => settle_on(Stage::Again, purpose),
             (Place::Settle(_, purpose), number) => purpose.settled(hand, number),
-            (Place::Link(change, _), _) => change.link_done(hand.spare, got.done),
-            (Place::End(change, row), _) => Next::Out(change.end_done(row, got.done)),
+            (Place::Link(change, _), _) => change.link_done(hand.spare, got.is_some()),
+            (Place::End(change, row), _) => Next::Out(change.end_done(row, got.is_some())),
             (Place::LostHead(key), row) => Next::Out(settle(Purpose::WonIns(key, row))),
-            (Place::Raise(survey), t) if got.done => Next::Raised(survey, t),
-            (Place::Raise(_), _) => Next::Out(Out::Done(Answer::ClockSpent)),
+            (Place::Raise(survey), t) if got.is_some() => Next::Raised(survey, t),
+            (Place::Raise(_), _) => Next::Out(Out::Break(Answer::ClockSpent)),
             (Place::WalkHead(walk), row) => walk.head_read(row),
             (Place::WalkOlder(walk, row), number) => walk.ins_read(row, hand, number),
         }

@@ -1,8 +1,12 @@
 // The places of all calls.
+ghost use Rattle.std.specs.Prelude.{◌≡◌};
+ghost use Rattle.places.specs.Touches.{side_row};
+
 use codes::Answer;
 use layout::names::{Cell, Field};
+use std::ops::ControlFlow;
 
-#[derive(Clone, Copy)]
+#[derive(Clone, Copy, PartialEq, Eq, Debug)]
 pub enum Op {
     Add,
     Remove,
@@ -10,7 +14,7 @@ pub enum Op {
 }
 
 // The arguments of an edge call; only an add uses the weight.
-#[derive(Clone, Copy)]
+#[derive(Clone, Copy, PartialEq, Eq, Debug)]
 pub struct Pair {
     pub from: u8,
     pub to: u8,
@@ -18,60 +22,89 @@ pub struct Pair {
 }
 
 // The two calls that make a page.
-#[derive(Clone, Copy)]
+#[derive(Clone, Copy, PartialEq, Eq, Debug)]
 pub enum Survey {
     Snapshot,
     Reach(u8),
 }
 
-#[derive(Clone, Copy)]
+#[derive(Clone, Copy, PartialEq, Eq, Debug)]
 pub enum Call {
     Vertex(Op, u8),
     Edge(Op, Pair),
     Survey(Survey),
 }
 
-// What is looked at: the vertex of a vertex call; the source, the target and the edge of an edge call, once bound to rows s and d.
-#[derive(Clone, Copy)]
+// An edge call bound to the rows of its two vertices.
+#[derive(Clone, Copy, PartialEq, Eq, Debug)]
+pub struct Bound {
+    pub pair: Pair,
+    pub source: u32,
+    pub target: u32,
+}
+
+// The two ends of an edge.
+#[derive(Clone, Copy, PartialEq, Eq, Debug)]
+pub enum Side {
+    Source,
+    Target,
+}
+
+impl Bound {
+    // The row of the vertex at one end.
+    pub fn row(self, side: Side) -> u32
+        ensures { result ≡ side_row self side }
+    {
+        match side {
+            Side::Source => self.source,
+            Side::Target => self.target,
+        }
+    }
+}
+
+// What is looked at: the vertex of a vertex call; the source, the target (with the row of the source) and the edge of an edge call.
+#[derive(Clone, Copy, PartialEq, Eq, Debug)]
 pub enum Look {
     Vertex(Op, u8),
     Source(Op, Pair),
     Target(Op, Pair, u32),
-    Edge(Op, Pair, u32, u32),
+    Edge(Op, Bound),
 }
 
-// What is changed: a vertex, or an edge bound to rows s and d.
-#[derive(Clone, Copy)]
+#[derive(Clone, Copy, PartialEq, Eq, Debug)]
 pub enum Change {
     Vertex(u8),
-    Edge(Pair, u32, u32),
+    Edge(Bound),
 }
 
-// What the look at an edge found: the head that it read and that is not the edge, or the row of the edge.
-#[derive(Clone, Copy)]
-pub enum Found {
-    Miss(u32),
-    Hit(u32),
+// What the look at an edge found: the row of the edge, or the head that it read and that is not the edge.
+pub type Found = Result<u32, u32>;
+
+// A pair that a walk is about: pair number x is the pair of the (x / N)-th key served and the key x % N.
+#[derive(Clone, Copy, PartialEq, Eq, Debug)]
+pub struct Leg {
+    pub number: u16,
+    pub from: u8,
+    pub to: u8,
 }
 
 // What a walk is for: a key of a snapshot; the start of a reach; a pair; the target of an edge row of a pair.
-// Pair number x is the pair of the (x / N)-th key served and the key x % N.
-#[derive(Clone, Copy)]
+#[derive(Clone, Copy, PartialEq, Eq, Debug)]
 pub enum Job {
     Key(u8),
     Start(u8),
-    Pair(u16, u8, u8),
-    Target(u16, u8, u8, u32),
+    Pair(Leg),
+    Target(Leg, u32),
 }
 
-#[derive(Clone, Copy)]
+#[derive(Clone, Copy, PartialEq, Eq, Debug)]
 pub struct Walk {
     pub survey: Survey,
     pub job: Job,
 }
 
 // The turns that settle a field: read it; read the clock; swap pending for that number; read it again.
-#[derive(Clone, Copy)]
+#[derive(Clone, Copy, PartialEq, Eq, Debug)]
 pub enum Stage {
     First,
     Clock,
@@ -79,24 +112,20 @@ pub enum Stage {
     Again,
 }
 
-// What a settled field is wanted for.
-#[derive(Clone, Copy)]
+// What a settled field is wanted for. A look and a walk settle the ins of a row, then its del.
+#[derive(Clone, Copy, PartialEq, Eq)]
 pub enum Purpose {
-    LookIns(Look, u32),
-    LookDel(Look, u32),
+    Look(Field, Look, u32),
     Own(Field, Change, u32),
     LostDel(Change, u32),
     WonIns(u8, u32),
-    BindAgain(Op, Pair, u32, u32),
-    AgainSource(Op, Pair, u32, u32, Found),
-    AgainTarget(Op, Pair, u32, u32, Found),
-    CompareSource(Pair, u32, u32, Field, u32, u32),
-    CompareTarget(Pair, u32, u32, Field, u32, u32),
-    WalkIns(Walk, u32),
-    WalkDel(Walk, u32),
+    BindAgain(Op, Bound),
+    Again(Side, Op, Bound, Found),
+    Compare(Side, Bound, Field, u32, u32),
+    Walk(Field, Walk, u32),
 }
 
-#[derive(Clone, Copy)]
+#[derive(Clone, Copy, PartialEq, Eq)]
 pub enum Place {
     Idle,
     Head(Look),
@@ -119,35 +148,30 @@ pub enum Touch {
     Link(Change, u32, u32),
 }
 
-// What the operation gave: the number of a read or a raise, and whether a swap or a raise was done.
-#[derive(Clone, Copy)]
-pub struct Got {
-    pub number: u32,
-    pub done: bool,
-}
+// What the operation gave: the number that the cell held, where the operation was done.
+pub type Got = Option<u32>;
 
-// What the worker has at hand without a turn: its next row or 0, the number of its raise, and what never changes of the row in hand.
-#[derive(Clone, Copy)]
+// What the worker has at hand without a turn: its next row, the number of its raise, and what never changes of the row in hand.
+#[derive(Clone, Copy, PartialEq, Eq, Debug)]
 pub struct Hand {
-    pub spare: u32,
+    pub spare: Option<u32>,
     pub t: u32,
+    // Row number 0 is none, as in the cells.
     pub older: u32,
     pub source: u32,
     pub target: u32,
     pub weight: u32,
 }
 
-#[derive(Clone, Copy)]
-pub enum Out {
-    Go(Place),
-    Done(Answer),
-}
+// On to a place, or the answer of the call.
+pub type Out = ControlFlow<Answer, Place>;
 
-// What follows from a place and what its turn gave: a place or an answer; a row linked; the clock raised; the end of a walk, with the visible row or 0.
-#[derive(Clone, Copy)]
+// What follows from a place and what its turn gave: a place or an answer; a row linked; the clock raised; the end of a walk, with the visible row.
+#[derive(Clone, Copy, PartialEq, Eq)]
 pub enum Next {
     Out(Out),
     Linked(Change, u32),
     Raised(Survey, u32),
+    // Row number 0 is none, as in the cells.
     Walked(Walk, u32),
 }

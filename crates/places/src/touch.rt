@@ -14,7 +14,7 @@ impl Look {
             Look::Vertex(_, i) => Head::Vertex(i),
             Look::Source(_, pair) => Head::Vertex(pair.from),
             Look::Target(_, pair, _) => Head::Vertex(pair.to),
-            Look::Edge(_, pair, _, _) => Head::Edge(pair.from, pair.to),
+            Look::Edge(_, bound) => Head::Edge(bound.pair.from, bound.pair.to),
         }
     }
 
@@ -22,7 +22,7 @@ impl Look {
         ensures { result ≡ look_kind self }
     {
         match self {
-            Look::Edge(_, _, _, _) => Kind::Edge,
+            Look::Edge(_, _) => Kind::Edge,
             _ => Kind::Vertex,
         }
     }
@@ -34,7 +34,7 @@ impl Change {
     {
         match self {
             Change::Vertex(i) => Head::Vertex(i),
-            Change::Edge(pair, _, _) => Head::Edge(pair.from, pair.to),
+            Change::Edge(bound) => Head::Edge(bound.pair.from, bound.pair.to),
         }
     }
 
@@ -43,7 +43,7 @@ impl Change {
     {
         match self {
             Change::Vertex(_) => Kind::Vertex,
-            Change::Edge(_, _, _) => Kind::Edge,
+            Change::Edge(_) => Kind::Edge,
         }
     }
 }
@@ -54,8 +54,8 @@ impl Job {
     {
         match self {
             Job::Key(i) | Job::Start(i) => Head::Vertex(i),
-            Job::Pair(_, from, to) => Head::Edge(from, to),
-            Job::Target(_, _, to, _) => Head::Vertex(to),
+            Job::Pair(leg) => Head::Edge(leg.from, leg.to),
+            Job::Target(leg, _) => Head::Vertex(leg.to),
         }
     }
 
@@ -75,18 +75,15 @@ impl Purpose {
         ensures { result ≡ settled_field self }
     {
         match self {
-            Purpose::LookIns(look, row) => Cell::Stamp(look.kind(), Field::Ins, row),
-            Purpose::LookDel(look, row) => Cell::Stamp(look.kind(), Field::Del, row),
+            Purpose::Look(field, look, row) => Cell::Stamp(look.kind(), field, row),
             Purpose::Own(field, change, row) => Cell::Stamp(change.kind(), field, row),
             Purpose::LostDel(change, row) => Cell::Stamp(change.kind(), Field::Del, row),
             Purpose::WonIns(_, row) => Cell::Stamp(Kind::Vertex, Field::Ins, row),
-            Purpose::BindAgain(_, _, s, _) => Cell::Stamp(Kind::Vertex, Field::Del, s),
-            Purpose::AgainSource(_, _, s, _, _) => Cell::Stamp(Kind::Vertex, Field::Del, s),
-            Purpose::AgainTarget(_, _, _, d, _) => Cell::Stamp(Kind::Vertex, Field::Del, d),
-            Purpose::CompareSource(_, s, _, _, _, _) => Cell::Stamp(Kind::Vertex, Field::Del, s),
-            Purpose::CompareTarget(_, _, d, _, _, _) => Cell::Stamp(Kind::Vertex, Field::Del, d),
-            Purpose::WalkIns(walk, row) => Cell::Stamp(walk.job.kind(), Field::Ins, row),
-            Purpose::WalkDel(walk, row) => Cell::Stamp(walk.job.kind(), Field::Del, row),
+            Purpose::BindAgain(_, bound) => Cell::Stamp(Kind::Vertex, Field::Del, bound.source),
+            Purpose::Again(side, _, bound, _) | Purpose::Compare(side, bound, _, _, _) => {
+                Cell::Stamp(Kind::Vertex, Field::Del, bound.row(side))
+            }
+            Purpose::Walk(field, walk, row) => Cell::Stamp(walk.job.kind(), field, row),
         }
     }
 }
@@ -104,16 +101,18 @@ impl Stage {
 }
 
 impl Place {
-    // `spare` is the worker's next row of the kind that it links, or 0.
-    pub fn touch(&self, spare: u32) -> Touch
+    // `spare` is the worker's next row of the kind that it links.
+    pub fn touch(&self, spare: Option<u32>) -> Touch
         ensures { result ≡ touch_of self.now spare }
     {
         match *self {
             Place::Idle => Touch::Nothing,
             Place::Head(look) => Touch::Read(Cell::Head(look.head())),
             Place::Settle(stage, purpose) => stage.touch(purpose.field()),
-            Place::Link(_, _) if spare == 0 => Touch::Nothing,
-            Place::Link(change, head) => Touch::Link(change, head, spare),
+            Place::Link(change, head) => match spare {
+                Some(row) => Touch::Link(change, head, row),
+                None => Touch::Nothing,
+            },
             Place::End(change, row) => Touch::Swap(
                 Cell::Stamp(change.kind(), Field::Del, row),
                 0,

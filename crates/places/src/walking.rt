@@ -5,6 +5,7 @@ ghost use Rattle.places.specs.Walks.{walked_head, walked_ins, walked_del, first_
 use crate::lookup::settle;
 use crate::mark::Mark;
 use crate::place::{Hand, Job, Next, Out, Place, Purpose, Survey, Walk};
+use layout::names::Field;
 
 impl Survey {
     // The walk that comes after the raise.
@@ -24,7 +25,7 @@ impl Walk {
     {
         match row {
             0 => Next::Walked(self, 0),
-            _ => Next::Out(settle(Purpose::WalkIns(self, row))),
+            _ => Next::Out(settle(Purpose::Walk(Field::Ins, self, row))),
         }
     }
 
@@ -32,11 +33,15 @@ impl Walk {
     pub fn ins_read(self, row: u32, hand: Hand, ins: u32) -> Next
         ensures { result ≡ walked_ins self row hand ins }
     {
-        match Mark::of(ins) {
-            Mark::Stamp(n) if n <= hand.t => Next::Out(settle(Purpose::WalkDel(self, row))),
-            Mark::NotEnded => Next::Out(settle(Purpose::WalkDel(self, row))),
+        match Mark::from(ins) {
+            Mark::Stamp(n) if n <= hand.t => Next::Out(settle(Purpose::Walk(
+                Field::Del,
+                self,
+                row,
+            ))),
+            Mark::NotEnded => Next::Out(settle(Purpose::Walk(Field::Del, self, row))),
             _ if hand.older == 0 => Next::Walked(self, 0),
-            _ => Next::Out(Out::Go(Place::WalkOlder(self, hand.older))),
+            _ => Next::Out(Out::Continue(Place::WalkOlder(self, hand.older))),
         }
     }
 
@@ -44,7 +49,7 @@ impl Walk {
     pub fn del_read(self, row: u32, hand: Hand, del: u32) -> Next
         ensures { result ≡ walked_del self row hand del }
     {
-        match Mark::of(del) {
+        match Mark::from(del) {
             Mark::Stamp(n) if n <= hand.t => Next::Walked(self, 0),
             _ => Next::Walked(self, row),
         }

@@ -17,10 +17,10 @@ fn fill<M: CellMemory>(memory: &mut M, sizes: Sizes, change: Change, head: u32, 
     let _ = memory.write(sizes.index(Cell::Older(kind, row)), head);
     let _ = memory.write(sizes.index(Cell::Stamp(kind, Field::Ins, row)), PENDING);
     let _ = memory.write(sizes.index(Cell::Stamp(kind, Field::Del, row)), 0);
-    if let Change::Edge(pair, s, d) = change {
-        let _ = memory.write(sizes.index(Cell::Source(row)), s);
-        let _ = memory.write(sizes.index(Cell::Target(row)), d);
-        let _ = memory.write(sizes.index(Cell::Weight(row)), pair.weight);
+    if let Change::Edge(bound) = change {
+        let _ = memory.write(sizes.index(Cell::Source(row)), bound.source);
+        let _ = memory.write(sizes.index(Cell::Target(row)), bound.target);
+        let _ = memory.write(sizes.index(Cell::Weight(row)), bound.pair.weight);
     }
 }
 
@@ -41,29 +41,14 @@ pub fn perform<M: CellMemory>(memory: &mut M, sizes: Sizes, touch: Touch) -> Got
     ensures after { M.cells memory.new ≡ cells_after sizes (M.cells memory.old) touch }
 {
     match touch {
-        Touch::Nothing => Got {
-            number: 0,
-            done: false,
-        },
-        Touch::Read(cell) => Got {
-            number: memory.read(sizes.index(cell)).unwrap_or(0),
-            done: true,
-        },
-        Touch::Swap(cell, old, new) => Got {
-            number: 0,
-            done: memory.swap(sizes.index(cell), old, new).unwrap_or(false),
-        },
-        Touch::Link(change, head, row) => Got {
-            number: 0,
-            done: link(memory, sizes, change, head, row),
-        },
-        Touch::Raise => match memory.raise(sizes.index(Cell::Clock), sizes.top) {
-            Some(number) => Got { number, done: true },
-            None => Got {
-                number: 0,
-                done: false,
-            },
-        },
+        Touch::Nothing => None,
+        Touch::Read(cell) => Some(memory.read(sizes.index(cell)).unwrap_or(0)),
+        Touch::Swap(cell, old, new) => memory
+            .swap(sizes.index(cell), old, new)
+            .unwrap_or(false)
+            .then_some(old),
+        Touch::Link(change, head, row) => link(memory, sizes, change, head, row).then_some(head),
+        Touch::Raise => memory.raise(sizes.index(Cell::Clock), sizes.top),
     }
 }
 

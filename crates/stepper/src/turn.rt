@@ -33,18 +33,14 @@ fn older<M: CellMemory>(memory: &M, sizes: Sizes, row: Option<(Kind, u32)>) -> u
 }
 
 impl<M: CellMemory> Run<M> {
-    // The worker's next row of the kind that it links, or 0.
-    fn spare(&self, w: u8, kind: Option<Kind>) -> u32
+    // The worker's next row of the kind that it links.
+    fn spare(&self, w: u8, kind: Option<Kind>) -> Option<u32>
         requires { w < 8 }
         ensures { result ≡ spare_for self.now.sizes w (slice_index_or self.now.table.workers w nobody) kind }
     {
-        match kind {
-            Some(kind) => {
-                let linked = self.table.workers[w as usize].linked(kind);
-                self.sizes.row_at(kind, w, linked).unwrap_or(0)
-            }
-            None => 0,
-        }
+        let kind = kind?;
+        let linked = self.table.workers[w as usize].linked(kind);
+        self.sizes.row_at(kind, w, linked)
     }
 
     // What the worker has at hand without a turn.

@@ -66,11 +66,11 @@ impl Worker {
         ensures after { self.new ≡ arrived self.old out }
     {
         match out {
-            Out::Go(place) => {
+            Out::Continue(place) => {
                 self.place = place;
                 None
             }
-            Out::Done(answer) => {
+            Out::Break(answer) => {
                 self.place = Place::Idle;
                 if let Answer::SnapshotTaken | Answer::ReachTaken = answer {
                     self.page = PageState::Finished;

@@ -1,7 +1,0 @@
-use Rattle.std.proofs.Common.{rules}
-use Rattle.std.proofs.lemmas.List.{get_or_past}
-use Rattle.books.proofs.book.Book.key.Goals as goal
-
--- there is no key of 64 or more
-pub returns-else-k-lt64 : goal.returns-else-k-lt64
-returns-else-k-lt64 c = search (rules, get_or_past)
