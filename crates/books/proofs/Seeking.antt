@@ -1,25 +1,34 @@
--- One pair after another.
-use Rattle.std.proofs.Common.{◌≡◌, ℕ, suc, ◌+◌, ◌-◌, ◌<◌, Bool, true, false, Some, sym, refl, ap, ◌∙◌, arith}
+-- What a search of the numbers from one on found is the first pair to walk.
+use Rattle.std.proofs.Common.{◌≡◌, ℕ, zero, suc, ◌+◌, ◌-◌, ◌*◌, ◌<◌, ◌≤◌, true, false, Some, None, Option, MatchOption, option_map, ⊎_elim, refl, sym, subst, arith}
+use Rattle.std.proofs.lemmas.Bool.{cases_lt}
 use Rattle.places.specs.declared.place.Survey.{Survey}
 use Rattle.places.specs.declared.place.Job.TheVariants as job
-use Rattle.books.specs.Serving.{first_open, open_pair, pair_from, pair_to}
+use Rattle.books.specs.Serving.{first_open, open_at, leg_at, open_from}
 use Rattle.books.specs.declared.book.Book.{Book}
 
-one_less : (d x : ℕ) → x < d → d - x ≡ suc (d - (x + 1))
-one_less d x h = omega arith
+module _ (b : Book) (v : Survey) (n : ℕ) where
+  abbrev pub Shut : ℕ → ℕ → Type 0
+  Shut x e = (k : ℕ) → x ≤ k → k < e → open_at b v n k ≡ false
 
--- what was tested of pair number x, whose key is f
-tested : (b : Book) (v : Survey) (n x f : ℕ) (o t : Bool) → f ≡ pair_from b n x → o ≡ open_pair b v f (pair_to n x) → o ≡ t → open_pair b v (pair_from b n x) (pair_to n x) ≡ t
-tested b v n x f o t e p q = ap (λ k. open_pair b v k (pair_to n x)) (sym e) ∙ sym p ∙ q
+  none_open : (d x : ℕ) → Shut x (x + d) → first_open b v n d x ≡ None
+  none_open zero x h = refl
+  none_open (suc d) x h = rw (h x (omega arith) (omega arith)) (none_open d (x + 1) (λ k l m. h k (omega arith) (omega arith)))
 
--- it is to be walked
-pub open_here : (b : Book) (v : Survey) (n d x f : ℕ) (o : Bool) → x < d → f ≡ pair_from b n x → o ≡ open_pair b v f (pair_to n x) → o ≡ true → first_open b v n (d - x) x ≡ Some (job.Pair (record { number = x; from = f; to = pair_to n x }))
-open_here b v n d x f o h e p q =
-    let t = tested b v n x f o true e p q in
-    rw (one_less d x h, t) (ap (λ k. Some (job.Pair (record { number = x; from = k; to = pair_to n x }))) (sym e))
+  one_open : (d x i : ℕ) → x ≤ i → i < x + d → open_at b v n i ≡ true → Shut x i → first_open b v n d x ≡ Some (job.Pair (leg_at b n i))
+  one_open zero x i l m t h = absurd (omega arith)
+  one_open (suc d) x i l m t h =
+      ⊎_elim
+      (λ (o : x < i). rw (h x (omega arith) o) (one_open d (x + 1) i (omega arith) (omega arith) t (λ k p q. h k (omega arith) q)))
+      (λ (o : i ≤ x). let e : i ≡ x = omega arith in subst (λ k. first_open b v n (suc d) k ≡ Some (job.Pair (leg_at b n i))) e (rw t refl))
+      (cases_lt x i)
 
--- it is not, and the others come after it
-pub open_later : (b : Book) (v : Survey) (n d x f : ℕ) (o : Bool) → x < d → f ≡ pair_from b n x → o ≡ open_pair b v f (pair_to n x) → o ≡ false → first_open b v n (d - x) x ≡ first_open b v n (d - (x + 1)) (x + 1)
-open_later b v n d x f o h e p q =
-    let t = tested b v n x f o false e p q in
-    rw (one_less d x h, t) refl
+  abbrev pub IsFirst : ℕ → Option ℕ → Type 0
+  IsFirst x r = MatchOption r (Shut x (n * b.len)) (λ i. (x ≤ i) × (i < n * b.len) × (open_at b v n i ≡ true) × Shut x i)
+
+  -- the pair with that number, or none
+  pub first_found : (x : ℕ) (r s : Option ℕ) → IsFirst x r → r ≡ s → option_map (λ i. job.Pair (leg_at b n i)) s ≡ open_from b v n x
+  first_found x r None f e = let h = subst (IsFirst x) e f in sym (none_open (n * b.len - x) x (λ k l m. h k l (omega arith)))
+  first_found x r (Some i) f e = let h = subst (IsFirst x) e f in sym (one_open (n * b.len - x) x i h.0 (omega (arith, h.0, h.1)) h.2 h.3)
+
+  pub below : (x i : ℕ) (r : Option ℕ) → IsFirst x r → r ≡ Some i → i < n * b.len
+  below x i r f e = (subst (IsFirst x) e f).1

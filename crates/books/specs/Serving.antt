@@ -29,6 +29,9 @@ pair_from b n x = slice_index b.queue (x / n)
 abbrev pub pair_to : ℕ → ℕ → ℕ
 pair_to n x = x % n
 
+abbrev pub open_at : Book → Survey → ℕ → ℕ → Bool
+open_at b v n x = open_pair b v (pair_from b n x) (pair_to n x)
+
 abbrev pub leg_at : Book → ℕ → ℕ → Leg
 leg_at b n x = record { number = x; from = pair_from b n x; to = pair_to n x }
 
@@ -36,7 +39,7 @@ leg_at b n x = record { number = x; from = pair_from b n x; to = pair_to n x }
 abbrev pub first_open : Book → Survey → ℕ → ℕ → ℕ → Option Job
 first_open b v n zero x = None
 first_open b v n (suc d) x =
-    cond (open_pair b v (pair_from b n x) (pair_to n x))
+    cond (open_at b v n x)
     (Some (job.Pair (leg_at b n x)))
     (first_open b v n d (x + 1))
 

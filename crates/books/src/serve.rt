@@ -1,6 +1,6 @@
 // The next pair to walk.
 ghost use Rattle.std.specs.Prelude.{◌≡◌};
-ghost use Rattle.books.specs.Serving.{open_pair, open_from, serve_from, survey_done, first_open};
+ghost use Rattle.books.specs.Serving.{pair_from, pair_to, open_at, open_from, serve_from, survey_done};
 
 use crate::book::Book;
 use codes::Answer;
@@ -18,10 +18,18 @@ pub fn survey_done(survey: Survey) -> Answer
 }
 
 impl Book {
-    // Whether a pair is to be walked.
-    fn is_open(&self, survey: Survey, from: u8, to: u8) -> bool
-        ensures { result ≡ open_pair self.now survey from to }
+    // The pair with a number.
+    fn pair(&self, sizes: Sizes, x: usize) -> (u8, u8)
+        ensures { result ≡ (pair_from self.now sizes.keys x, pair_to sizes.keys x) }
     {
+        (self.queued(x / sizes.keys), (x % sizes.keys) as u8)
+    }
+
+    // Whether the pair with a number is to be walked.
+    fn is_open(&self, survey: Survey, sizes: Sizes, x: usize) -> bool
+        ensures { result ≡ open_at self.now survey sizes.keys x }
+    {
+        let (from, to) = self.pair(sizes, x);
         match survey {
             Survey::Snapshot => from != to && self.key(from) != 0 && self.key(to) != 0,
             Survey::Reach(_) => from != to,
@@ -32,18 +40,14 @@ impl Book {
     fn seek(&self, survey: Survey, sizes: Sizes, start: usize) -> Option<Job>
         ensures { result ≡ open_from self.now survey sizes.keys start }
     {
-        for x in start..sizes.keys * self.len as usize {
-            let from = self.queued(x / sizes.keys);
-            let to = (x % sizes.keys) as u8;
-            if self.is_open(survey, from, to) {
-                return Some(Job::Pair(Leg {
-                    number: x as u16,
-                    from,
-                    to,
-                }));
-            }
-        }
-        None
+        let end = sizes.keys * self.len as usize;
+        let x = (start..end).find(|&x| self.is_open(survey, sizes, x))?;
+        let (from, to) = self.pair(sizes, x);
+        Some(Job::Pair(Leg {
+            number: x as u16,
+            from,
+            to,
+        }))
     }
 
     // On to the next pair to walk, or the answer.

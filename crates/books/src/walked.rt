@@ -17,7 +17,7 @@ pub enum Entry {
     Join(u8, u8, u32, u32),
 }
 
-#[derive(Clone, Copy, PartialEq, Eq)]
+#[derive(Clone, Copy, PartialEq, Eq, Debug)]
 pub struct Served {
     pub out: Out,
     pub entry: Entry,

@@ -40,7 +40,7 @@ impl Op {
 }
 
 impl Bound {
-    // Whether an edge row is the edge: its two rows are the bound ones.
+    // An edge row is the edge if its two rows are the bound ones.
     fn found(self, row: u32, hand: Hand) -> Found
         ensures { result ≡ bound_row self row hand }
     {
@@ -89,9 +89,10 @@ impl Look {
     pub fn looked(self, row: u32, hand: Hand, del: u32) -> Out
         ensures { result ≡ looked self row hand del }
     {
-        match Mark::from(del) {
-            Mark::NotEnded => self.alive(row, hand),
-            _ => self.absent(row),
+        if Mark::from(del) == Mark::NotEnded {
+            self.alive(row, hand)
+        } else {
+            self.absent(row)
         }
     }
 }
@@ -100,9 +101,10 @@ impl Look {
 pub fn unless_ended(del: u32, on: Out) -> Out
     ensures { result ≡ unless_ended del on }
 {
-    match Mark::from(del) {
-        Mark::NotEnded => on,
-        _ => Out::Break(Answer::VertexAbsent),
+    if Mark::from(del) == Mark::NotEnded {
+        on
+    } else {
+        Out::Break(Answer::VertexAbsent)
     }
 }
 

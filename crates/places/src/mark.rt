@@ -18,7 +18,7 @@ impl From<u32> for Mark {
     fn from(number: u32) -> Mark {
         match number {
             0 => Mark::NotEnded,
-            n if n == PENDING => Mark::Pending,
+            PENDING => Mark::Pending,
             n => Mark::Stamp(n),
         }
     }

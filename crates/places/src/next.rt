@@ -1,6 +1,6 @@
 // What follows from a place and what its turn gave.
 ghost use Rattle.std.specs.Prelude.{◌≡◌};
-ghost use Rattle.places.specs.Nexts.{settle_on, settled, link_done, raise_done, next_of};
+ghost use Rattle.places.specs.Nexts.{settle_on, settled, link_done, next_of};
 ghost use Rattle.places.specs.Rules.{edge_changed, end_done, lost_link};
 
 use crate::lookup::{settle, unless_below, unless_ended};
@@ -112,8 +112,10 @@ impl Place {
             (Place::Link(change, _), _) => change.link_done(hand.spare, got.is_some()),
             (Place::End(change, row), _) => Next::Out(change.end_done(row, got.is_some())),
             (Place::LostHead(key), row) => Next::Out(settle(Purpose::WonIns(key, row))),
-            (Place::Raise(survey), t) if got.is_some() => Next::Raised(survey, t),
-            (Place::Raise(_), _) => Next::Out(Out::Break(Answer::ClockSpent)),
+            (Place::Raise(survey), _) => match got {
+                Some(t) => Next::Raised(survey, t),
+                None => Next::Out(Out::Break(Answer::ClockSpent)),
+            },
             (Place::WalkHead(walk), row) => walk.head_read(row),
             (Place::WalkOlder(walk, row), number) => walk.ins_read(row, hand, number),
         }

@@ -113,7 +113,7 @@ pub enum Stage {
 }
 
 // What a settled field is wanted for. A look and a walk settle the ins of a row, then its del.
-#[derive(Clone, Copy, PartialEq, Eq)]
+#[derive(Clone, Copy, PartialEq, Eq, Debug)]
 pub enum Purpose {
     Look(Field, Look, u32),
     Own(Field, Change, u32),
@@ -125,7 +125,7 @@ pub enum Purpose {
     Walk(Field, Walk, u32),
 }
 
-#[derive(Clone, Copy, PartialEq, Eq)]
+#[derive(Clone, Copy, PartialEq, Eq, Debug)]
 pub enum Place {
     Idle,
     Head(Look),
@@ -139,7 +139,7 @@ pub enum Place {
 }
 
 // The one operation of a turn on one shared cell. A link also fills the worker's own row first.
-#[derive(Clone, Copy)]
+#[derive(Clone, Copy, PartialEq, Eq, Debug)]
 pub enum Touch {
     Nothing,
     Read(Cell),
@@ -167,7 +167,7 @@ pub struct Hand {
 pub type Out = ControlFlow<Answer, Place>;
 
 // What follows from a place and what its turn gave: a place or an answer; a row linked; the clock raised; the end of a walk, with the visible row.
-#[derive(Clone, Copy, PartialEq, Eq)]
+#[derive(Clone, Copy, PartialEq, Eq, Debug)]
 pub enum Next {
     Out(Out),
     Linked(Change, u32),

@@ -109,10 +109,9 @@ impl Place {
             Place::Idle => Touch::Nothing,
             Place::Head(look) => Touch::Read(Cell::Head(look.head())),
             Place::Settle(stage, purpose) => stage.touch(purpose.field()),
-            Place::Link(change, head) => match spare {
-                Some(row) => Touch::Link(change, head, row),
-                None => Touch::Nothing,
-            },
+            Place::Link(change, head) => {
+                spare.map_or(Touch::Nothing, |row| Touch::Link(change, head, row))
+            }
             Place::End(change, row) => Touch::Swap(
                 Cell::Stamp(change.kind(), Field::Del, row),
                 0,
