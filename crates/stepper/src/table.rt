@@ -8,7 +8,7 @@ use crate::worker::{Step, Worker};
 use layout::sizes::Sizes;
 use places::place::{Call, Hand, Next};
 
-#[derive(Clone, Copy, PartialEq, Eq)]
+#[derive(Clone, Copy, PartialEq, Eq, Debug)]
 pub struct Table {
     pub workers: [Worker; 8],
 }

@@ -46,7 +46,7 @@ impl<M: CellMemory> Run<M> {
 
     // The worker's next row of the kind that it links.
     fn spare(&self, seat: Seat, kind: Option<Kind>) -> Option<u32>
-        ensures { result ≡ spare_for self.now.board.sizes seat.index (slice_index_or self.now.table.workers seat.index nobody) kind }
+        ensures { result ≡ spare_for self.now.board.sizes seat.index (worker_at (state_of M.cells self.now) seat.index) kind }
     {
         let kind = kind?;
         let linked = self.table.worker(seat).linked(kind);
@@ -55,7 +55,7 @@ impl<M: CellMemory> Run<M> {
 
     // What the worker has at hand without a turn.
     fn hand(&self, seat: Seat) -> Hand
-        ensures { result ≡ hand_of self.now.board.sizes (M.cells self.now.board.memory) seat.index (slice_index_or self.now.table.workers seat.index nobody) (slice_index_or self.now.table.workers seat.index nobody).place }
+        ensures { result ≡ hand_at (state_of M.cells self.now) seat.index }
     {
         let worker = self.table.worker(seat);
         let edge = worker.place.edge_row();
