@@ -71,6 +71,7 @@ impl Book {
     {
         if self.len < 64 {
             let row = self.row(k);
+            // Of a slice that `get_mut` lent a proof knows no element.
             if k < 64 {
                 self.keys[k as usize] = row;
             }

@@ -1,6 +1,6 @@
 // The next pair to walk.
 ghost use Rattle.std.specs.Prelude.{◌≡◌};
-ghost use Rattle.books.specs.Serving.{pair_from, pair_to, open_at, open_from, serve_from, survey_done, first_open};
+ghost use Rattle.books.specs.Serving.{pair_from, pair_to, open_at, open_from, serve_from, survey_done};
 
 use crate::book::Book;
 use codes::Answer;

@@ -10,7 +10,7 @@ use layout::sizes::Sizes;
 use places::place::{Hand, Next, Out, Place, Purpose, Stage, Walk};
 
 // A worker's page: not finished, finished, or handed out with a ticket.
-#[derive(Clone, Copy)]
+#[derive(Clone, Copy, PartialEq, Eq, Debug)]
 pub enum PageState {
     Unfinished,
     Finished,
@@ -18,7 +18,7 @@ pub enum PageState {
 }
 
 // `serial` counts the pages that the worker has finished, `vlinked` and `elinked` the vertex rows and edge rows that it has linked.
-#[derive(Clone, Copy)]
+#[derive(Clone, Copy, PartialEq, Eq, Debug)]
 pub struct Worker {
     pub place: Place,
     pub page: PageState,
@@ -29,7 +29,7 @@ pub struct Worker {
 }
 
 // What a turn gave beside the worker's own record: the answer, if it answered, and what goes into the page.
-#[derive(Clone, Copy)]
+#[derive(Clone, Copy, PartialEq, Eq, Debug)]
 pub struct Step {
     pub answer: Option<Answer>,
     pub entry: Entry,
