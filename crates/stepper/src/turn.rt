@@ -1,13 +1,12 @@
 // One turn of a worker.
-ghost use Rattle.std.specs.Prelude.{◌≡◌, ◌<◌, ◌≤◌, IfOk, MatchResult, slice_index_or};
+ghost use Rattle.std.specs.Prelude.{◌≡◌, ◌<◌, ◌≤◌, IfOk, MatchResult};
 ghost use Rattle.std.specs.Result.{result_err};
 ghost use Rattle.stepper.specs.States.{state_of};
 ghost use Rattle.stepper.specs.Requests.{turn_refused, turn_answer, answered_or, stepped};
 ghost use Rattle.stepper.specs.History.{Extends};
 ghost use Rattle.stepper.specs.declared.request.Request.TheVariants.{Turn};
 ghost use Rattle.codes.specs.declared.refusal.Refusal.TheVariants.{NoSuchWorker};
-ghost use Rattle.stepper.specs.Workers.{nobody};
-ghost use Rattle.stepper.specs.Turns.{cell_at, next_row, spare_for, older_at, edge_at, hand_of, hand_at, answer_at, turned};
+ghost use Rattle.stepper.specs.Turns.{worker_at, spare_for, older_at, edge_at, hand_at, answer_at, turned};
 
 use crate::board::Board;
 use crate::run::Run;
@@ -46,7 +45,7 @@ impl<M: CellMemory> Run<M> {
 
     // The worker's next row of the kind that it links.
     fn spare(&self, seat: Seat, kind: Option<Kind>) -> Option<u32>
-        ensures { result ≡ spare_for self.now.board.sizes seat.index (slice_index_or self.now.table.workers seat.index nobody) kind }
+        ensures { result ≡ spare_for self.now.board.sizes seat.index (worker_at (state_of M.cells self.now) seat.index) kind }
     {
         let kind = kind?;
         let linked = self.table.worker(seat).linked(kind);
@@ -55,7 +54,7 @@ impl<M: CellMemory> Run<M> {
 
     // What the worker has at hand without a turn.
     fn hand(&self, seat: Seat) -> Hand
-        ensures { result ≡ hand_of self.now.board.sizes (M.cells self.now.board.memory) seat.index (slice_index_or self.now.table.workers seat.index nobody) (slice_index_or self.now.table.workers seat.index nobody).place }
+        ensures { result ≡ hand_at (state_of M.cells self.now) seat.index }
     {
         let worker = self.table.worker(seat);
         let edge = worker.place.edge_row();
