@@ -23,6 +23,7 @@ use Rattle.books.specs.Books.{blank}
 use Rattle.books.specs.Walked.{walked_of, Outcome}
 use Rattle.stepper.specs.declared.worker.PageState.TheVariants.{Unfinished, Finished}
 use Rattle.stepper.specs.declared.worker.Worker.{Worker}
+use Rattle.stepper.specs.declared.worker.Step.{Step}
 
 -- idle, with no page and no row linked
 abbrev pub fresh : Worker
@@ -77,6 +78,9 @@ pub record Turned : Type 0 where
   pub worker : Worker
   pub answer : Option Answer
   pub entry : Entry
+
+abbrev pub after_step : Worker → Step → Turned
+after_step v s = record { worker = v; answer = s.answer; entry = s.entry }
 
 abbrev pub served : Worker → Outcome → Turned
 served v o = record { worker = arrived (with_book v o.book) o.out; answer = out_answer o.out; entry = o.entry }

@@ -1,7 +1,7 @@
 // The records of all workers; an opening uses as many as its sizes say.
 ghost use Rattle.std.specs.Prelude.{◌≡◌, slice_index_or, slice_set};
 ghost use Rattle.stepper.specs.Requests.{begun};
-ghost use Rattle.stepper.specs.Workers.{nobody, fresh_table, followed};
+ghost use Rattle.stepper.specs.Workers.{nobody, fresh_table, after_step, followed};
 
 use crate::seat::Seat;
 use crate::worker::{Step, Worker};
@@ -37,9 +37,8 @@ impl Table {
     }
 
     pub(crate) fn follow(&mut self, seat: Seat, sizes: Sizes, hand: Hand, next: Next) -> Step
-        ensures after { self.new.workers ≡ slice_set self.old.workers seat.index (followed sizes.keys (slice_index_or self.old.workers seat.index nobody) hand next).worker }
-        ensures answer { result.answer ≡ (followed sizes.keys (slice_index_or self.old.workers seat.index nobody) hand next).answer }
-        ensures entry { result.entry ≡ (followed sizes.keys (slice_index_or self.old.workers seat.index nobody) hand next).entry }
+        ensures workers { self.new.workers ≡ slice_set self.old.workers seat.index (followed sizes.keys (slice_index_or self.old.workers seat.index nobody) hand next).worker }
+        ensures step { after_step (followed sizes.keys (slice_index_or self.old.workers seat.index nobody) hand next).worker result ≡ followed sizes.keys (slice_index_or self.old.workers seat.index nobody) hand next }
     {
         let worker = &mut self.workers[seat.index as usize];
         worker.follow(sizes, hand, next)

@@ -1,13 +1,12 @@
 // One turn of a worker.
-ghost use Rattle.std.specs.Prelude.{◌≡◌, ◌<◌, ◌≤◌, IfOk, MatchResult, slice_index_or};
+ghost use Rattle.std.specs.Prelude.{◌≡◌, ◌<◌, ◌≤◌, IfOk, MatchResult};
 ghost use Rattle.std.specs.Result.{result_err};
 ghost use Rattle.stepper.specs.States.{state_of};
 ghost use Rattle.stepper.specs.Requests.{turn_refused, turn_answer, answered_or, stepped};
 ghost use Rattle.stepper.specs.History.{Extends};
 ghost use Rattle.stepper.specs.declared.request.Request.TheVariants.{Turn};
 ghost use Rattle.codes.specs.declared.refusal.Refusal.TheVariants.{NoSuchWorker};
-ghost use Rattle.stepper.specs.Workers.{nobody};
-ghost use Rattle.stepper.specs.Turns.{cell_at, next_row, spare_for, older_at, edge_at, hand_of, hand_at, answer_at, turned};
+ghost use Rattle.stepper.specs.Turns.{worker_at, spare_for, older_at, edge_at, hand_at, answer_at, turned};
 
 use crate::board::Board;
 use crate::run::Run;

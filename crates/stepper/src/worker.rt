@@ -1,6 +1,6 @@
 // What is kept of each worker beside the cells.
 ghost use Rattle.std.specs.Prelude.{◌≡◌};
-ghost use Rattle.stepper.specs.Workers.{fresh, fresh_table, linked_of, arrived, out_answer, followed};
+ghost use Rattle.stepper.specs.Workers.{fresh, linked_of, arrived, out_answer, after_step, followed};
 
 use books::book::Book;
 use books::walked::Entry;
@@ -83,9 +83,7 @@ impl Worker {
 
     // What a turn makes of the record.
     pub fn follow(&mut self, sizes: Sizes, hand: Hand, next: Next) -> Step
-        ensures after { self.new ≡ (followed sizes.keys self.old hand next).worker }
-        ensures answer { result.answer ≡ (followed sizes.keys self.old hand next).answer }
-        ensures entry { result.entry ≡ (followed sizes.keys self.old hand next).entry }
+        ensures { after_step self.new result ≡ followed sizes.keys self.old hand next }
     {
         match next {
             Next::Out(out) => Step {
