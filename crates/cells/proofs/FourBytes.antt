@@ -1,10 +1,10 @@
 -- What the four bytes of a cell mean, and what writing them leaves.
 use Rattle.std.proofs.Common.{◌≡◌, ℕ, ◌+◌, ◌*◌, ◌/◌, ◌%◌, ◌^◌, ◌<◌, ◌≤◌, ◌≢◌, List, length, get_or, set, sym, ◌∙◌, ⊎_elim, arith, rules}
-use Rattle.std.proofs.lemmas.List.{get_or_past, length-set, get_or-set_same, get_or-set_other, ext_get_or, drop-set-lt}
+use Rattle.std.proofs.lemmas.List.{get_or_past, length-set, get_or-set_same, get_or-set_other, ext_get_or}
 use Rattle.std.proofs.lemmas.List.FromFn.{length-map-range_with_len, get_or-map-range_with_len}
-use Rattle.std.proofs.lemmas.Nat.{shr-shr, div-add-mod'}
+use Rattle.std.proofs.lemmas.Nat.{from_be_bytes-to_be_bytes_4}
 use Rattle.std.proofs.lemmas.Bool.{cases_eq, cases_lt}
-use Rattle.cells.specs.FourBytes.{word_at, words_of, spare_of}
+use Rattle.cells.specs.FourBytes.{word_at, words_of}
 
 pub length-words_of : (bs : List ℕ) → length (words_of bs) ≡ length bs / 4
 unfolding words_of
@@ -36,16 +36,9 @@ word_at-four_other bs i a b c d k ne =
     let e₃ = get_or-four_other bs i a b c d (4 * k + 3) (omega arith) (omega arith) (omega arith) (omega arith) in
     omega arith
 
-from_digits : (v p q t x y z : ℕ) → p * 256 + x ≡ v → q * 256 + y ≡ p → t * 256 + z ≡ q → t * 16777216 + z * 65536 + y * 256 + x ≡ v
-from_digits v p q t x y z e₀ e₁ e₂ = omega arith
-
 -- a number of 32 bits is its four bytes
 from_bytes : (v : ℕ) → v < 2 ^ 32 → v / 16777216 % 256 * 16777216 + v / 65536 % 256 * 65536 + v / 256 % 256 * 256 + v % 256 ≡ v
-from_bytes v f =
-    let top : v / 16777216 % 256 ≡ v / 16777216 = omega arith in
-    rw top (from_digits v (v / 256) (v / 65536) (v / 16777216) _ _ _ (div-add-mod' v 256)
-    (rw (← shr-shr v 8 8) (div-add-mod' (v / 256) 256))
-    (rw (← shr-shr v 16 8) (div-add-mod' (v / 65536) 256)))
+from_bytes v f = omega (arith, from_be_bytes-to_be_bytes_4 v f)
 
 pub put-words_of : (bs : List ℕ) (i v : ℕ) → i < length bs / 4 → v < 2 ^ 32 → words_of (four bs i (v / 16777216 % 256) (v / 65536 % 256) (v / 256 % 256) (v % 256)) ≡ set (words_of bs) i v
 put-words_of bs i v h f =
@@ -65,16 +58,6 @@ put-words_of bs i v h f =
     (λ (ne : k ≡ i → ⊥).
     get_or-words_of new k (omega arith) ∙ word_at-four_other bs i _ _ _ _ k ne ∙ sym (get_or-words_of bs k (omega arith)) ∙ sym (get_or-set_other (words_of bs) i k v 0 ne))
     (cases_eq k i))
-
--- the bytes left over are none of the four
-pub spare_of-four : (bs : List ℕ) (i a b c d : ℕ) → i < length bs / 4 → spare_of (four bs i a b c d) ≡ spare_of bs
-spare_of-four bs i a b c d h =
-    let n : ℕ = 4 * (length bs / 4) in
-    rw (length-four bs i a b c d)
-    (drop-set-lt n _ (4 * i + 3) d (omega arith)
-    ∙ drop-set-lt n _ (4 * i + 2) c (omega arith)
-    ∙ drop-set-lt n _ (4 * i + 1) b (omega arith)
-    ∙ drop-set-lt n bs (4 * i) a (omega arith))
 
 -- cells of bytes are numbers of 32 bits
 pub words_of_lt : (bs : List ℕ) → ((i : ℕ) → get_or bs i 0 < 256) → (i : ℕ) → get_or (words_of bs) i 0 < 2 ^ 32

@@ -1,5 +1,5 @@
 // The caller's 32-bit words, a cell each.
-ghost use Rattle.std.specs.Prelude.{ℕ, ◌^◌, ◌<◌, slice_index};
+ghost use Rattle.std.specs.Prelude.{ℕ, ◌^◌, ◌<◌, [], slice_index};
 
 use crate::memory::CellMemory;
 
@@ -11,6 +11,8 @@ pub struct Words<'a> {
 impl<'a> CellMemory for Words<'a> {
     ghost cells = { λ s. s.words.now };
 
+    ghost spare = { λ _. [] };
+
     fn len(&self) -> usize {
         self.words.len()
     }
@@ -20,13 +22,10 @@ impl<'a> CellMemory for Words<'a> {
     }
 
     fn read(&self, i: usize) -> Option<u32> {
-        if i < self.words.len() {
-            Some(self.words[i])
-        } else {
-            None
-        }
+        self.words.get(i).copied()
     }
 
+    // After `get_mut` a proof knows nothing of the words.
     fn write(&mut self, i: usize, v: u32) -> Option<()> {
         if i < self.words.len() {
             self.words[i] = v;
@@ -35,40 +34,11 @@ impl<'a> CellMemory for Words<'a> {
             None
         }
     }
-
-    fn swap(&mut self, i: usize, old: u32, new: u32) -> Option<bool> {
-        if i < self.words.len() {
-            if self.words[i] == old {
-                self.words[i] = new;
-                Some(true)
-            } else {
-                Some(false)
-            }
-        } else {
-            None
-        }
-    }
-
-    fn raise(&mut self, i: usize, limit: u32) -> Option<u32> {
-        if i < self.words.len() {
-            let was = self.words[i];
-            if was < limit {
-                self.words[i] = was + 1;
-                Some(was)
-            } else {
-                None
-            }
-        } else {
-            None
-        }
-    }
 }
 
-// Each word is a number of 32 bits.
+// Each word is a number of 32 bits. A proof learns it only of a slice that is a parameter.
 fn each_fits(words: &[u32])
     ensures { (i : ℕ) → slice_index words.now i < 2 ^ 32 }
 {
-    seen(words)
+    let _ = words.is_empty();
 }
-
-fn seen(_words: &[u32]) {}

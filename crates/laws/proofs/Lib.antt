@@ -13,8 +13,8 @@ mod Counts
 mod LinkTurns
 mod Keeps
 mod Begins
+mod Steps
 mod Runs
-mod Stages
 mod Places
 mod Stamped
 mod Moments

@@ -1,5 +1,6 @@
 -- Several turns of one worker, one after another.
 use Rattle.std.proofs.Common.{◌≡◌, ℕ, zero, suc, ◌+◌, ◌<◌, Bool, true, false, cond, ltb, Some, None, Ok, Option, sym, refl, ap, ◌∙◌, subst, add-one, arith, below_more}
+use Rattle.std.proofs.lemmas.Option.{none-some}
 use Rattle.codes.specs.declared.answer.Answer.{Answer}
 use Rattle.codes.specs.declared.refusal.Refusal.{Refusal}
 use Rattle.codes.specs.declared.refusal.Refusal.TheVariants.{NoSuchWorker, WorkerIdle}
@@ -12,44 +13,33 @@ use Rattle.stepper.proofs.Busy.{turned_busy}
 
 -- a turn that is not refused is of a worker that there is, in its call
 refused_none : (a b : Bool) → cond a (cond b (Some WorkerIdle) None) (Some NoSuchWorker) ≡ None → (a ≡ true) × (b ≡ false)
-refused_none true true e = let z : ◌≡◌ {A = ℕ} 0 1 = cc in absurd (omega arith)
-refused_none true false e = (refl, refl)
-refused_none false b e = let z : ◌≡◌ {A = ℕ} 0 1 = cc in absurd (omega arith)
-
-none_refused : (a b : Bool) → a ≡ true → b ≡ false → cond a (cond b (Some WorkerIdle) None) (Some NoSuchWorker) ≡ None
-none_refused a b e f = rw (e, f) refl
+refused_none a b e = grind arith
 
 -- after a turn that did not answer, the next is not refused
 turn_goes_on : (s : State) (w : ℕ) → turn_refused s w ≡ None → answer_at s w ≡ None → turn_refused (turned s w) w ≡ None
 turn_goes_on s w e a =
     let p = refused_none (ltb w s.sizes.workers) (is_idle (worker_at s w).place) e in
-    none_refused (ltb w s.sizes.workers) (is_idle (worker_at (turned s w) w).place) p.0 (turned_busy s w p.1 a)
+    rw (p.0, turned_busy s w p.1 a) refl
 
 after_goes_on : (s : State) (w u : ℕ) → turn_refused s w ≡ None → ((k : ℕ) → k + 1 < u → answer_at (after s w k) w ≡ None) → (k : ℕ) → k < u → turn_refused (after s w k) w ≡ None
 after_goes_on s w u e q zero l = e
 after_goes_on s w u e q (suc k) l = turn_goes_on (after s w k) w (after_goes_on s w u e q k (omega arith)) (q k (omega arith))
 
-reply_goes : (s : State) (w : ℕ) (r : Option Refusal) → r ≡ None → answered_or (Ok (answer_at s w)) ≡ answered_or (unless_refused r (answer_at s w))
-reply_goes s w r e = rw e refl
-
-state_goes : (s t : State) (r : Option Refusal) → r ≡ None → t ≡ state_or r s t
-state_goes s t r e = rw e refl
-
 pub continues : (s : State) (w u : ℕ) → ((k : ℕ) → k < u → turn_refused (after s w k) w ≡ None) → Continues s (after s w u) (turn_events s w u)
 continues s w zero f start h t = t
 continues s w (suc u) f start h t =
     let n = f u (omega arith) in
-    (after s w u, continues s w u (λ k l. f k (omega arith)) start h t, reply_goes (after s w u) w (turn_refused (after s w u) w) n, state_goes (after s w u) (turned (after s w u) w) (turn_refused (after s w u) w) n)
+    (after s w u, continues s w u (λ k l. f k (omega arith)) start h t, rw n refl, rw n refl)
 
 -- the history grows by the turns that were given
 pub gave_continues : (s s' : State) (w u : ℕ) → turn_refused s w ≡ None → s' ≡ after s w u → ((k : ℕ) → k + 1 < u → answer_at (after s w k) w ≡ None) → Continues s s' (turn_events s w u)
 gave_continues s s' w u e f q = rw f (continues s w u (after_goes_on s w u e q))
 
 after_more : (s t t' : State) (w i : ℕ) → t ≡ after s w i → t' ≡ turned t w → t' ≡ after s w (i + 1)
-after_more s t t' w i e f = f ∙ ap (λ x. turned x w) e ∙ ap (after s w) (sym (add-one i))
+after_more s t t' w i e f = rw (add-one i) cc
 
 answer_at_lem : (s t : State) (w i k : ℕ) (a : Option Answer) → t ≡ after s w i → k ≡ i → a ≡ answer_at t w → answer_at (after s w k) w ≡ a
-answer_at_lem s t w i k a e f g = ap (λ j. answer_at (after s w j) w) f ∙ ap (λ x. answer_at x w) (sym e) ∙ sym g
+answer_at_lem s t w i k a e f g = cc
 
 -- turn number i answered
 pub gave_answer : (s t t' : State) (w n i : ℕ) (a : Answer) → i < n → t ≡ after s w i → ((k : ℕ) → k < i → answer_at (after s w k) w ≡ None) → Some a ≡ answer_at t w → t' ≡ turned t w → Gave s w n (Some a) (i + 1) t'
@@ -58,7 +48,7 @@ gave_answer s t t' w n i a l e q g f = record {
   state = after_more s t t' w i e f;
   quiet = λ k h. q k (omega arith);
   last = λ k h. answer_at_lem s t w i k (Some a) e (omega arith) g;
-  all = λ x. let z : ◌≡◌ {A = ℕ} 0 1 = cc in absurd (omega arith);
+  all = λ x. absurd (none-some a (sym x));
 }
 
 -- turn number i did not answer

@@ -1,5 +1,7 @@
 mod Clearing
 mod Bounds
 mod Extending
+mod Starts
+pub mod Stages
 mod Busy
 mod Giving

@@ -1,5 +1,7 @@
 -- What a touch gives, and what it makes of the cells.
-use Rattle.std.specs.Prelude.{ℕ, zero, suc, ◌+◌, Bool, true, false, List, Some, None, Option, slice_index, slice_set}
+use Rattle.std.specs.Prelude.{ℕ, zero, suc, ◌+◌, Bool, false, List, Some, None, Option, slice_index, slice_set}
+use Rattle.std.specs.Bool.{then_some}
+use Rattle.std.specs.Option.{unwrap_or}
 use Rattle.cells.specs.Cells.{swapped, swap_of, raised, raise_of}
 use Rattle.layout.specs.declared.sizes.Sizes.{Sizes}
 use Rattle.layout.specs.declared.names.Field.TheVariants.{Ins, Del}
@@ -12,7 +14,6 @@ use Rattle.places.specs.declared.place.Change.{Change}
 use Rattle.places.specs.declared.place.Change.TheVariants as change
 use Rattle.places.specs.declared.place.Touch.{Touch}
 use Rattle.places.specs.declared.place.Touch.TheVariants as touch
-use Rattle.places.specs.declared.place.Got.{Got}
 use Rattle.books.specs.declared.walked.Entry.{Entry}
 use Rattle.books.specs.declared.walked.Entry.TheVariants as entry
 
@@ -20,36 +21,29 @@ use Rattle.books.specs.declared.walked.Entry.TheVariants as entry
 abbrev pub put : Sizes → List ℕ → Cell → ℕ → List ℕ
 put s cs c v = slice_set cs (index_of s c) v
 
--- an edge row is bound to rows s and d, and has a weight
+-- an edge row is bound to the rows of its two vertices, and has a weight
 abbrev pub bound : Sizes → List ℕ → Change → ℕ → List ℕ
 bound z cs (change.Vertex i) r = cs
-bound z cs (change.Edge p s d) r = put z (put z (put z cs (cell.Source r) s) (cell.Target r) d) (cell.Weight r) p.weight
+bound z cs (change.Edge b) r = put z (put z (put z cs (cell.Source r) b.source) (cell.Target r) b.target) (cell.Weight r) (b.pair.weight)
 
 -- a row filled for a link: older is the head that was read, ins pending, del 0
 abbrev pub filled : Sizes → List ℕ → Change → ℕ → ℕ → List ℕ
 filled z cs c h r =
     bound z (put z (put z (put z cs (cell.Older (change_kind c) r) h) (cell.Stamp (change_kind c) Ins r) pending) (cell.Stamp (change_kind c) Del r) 0) c r
 
-abbrev pub is_yes : Option Bool → Bool
-is_yes None = false
-is_yes (Some b) = b
-
 abbrev pub link_done : Sizes → List ℕ → Change → ℕ → ℕ → Bool
-link_done z cs c h r = is_yes (swap_of (filled z cs c h r) (index_of z (cell.Head (change_head c))) h)
+link_done z cs c h r = unwrap_or (swap_of (filled z cs c h r) (index_of z (cell.Head (change_head c))) h) false
 
 abbrev pub linked_cells : Sizes → List ℕ → Change → ℕ → ℕ → List ℕ
 linked_cells z cs c h r = swapped (filled z cs c h r) (index_of z (cell.Head (change_head c))) h r
 
-abbrev pub raised_to : Option ℕ → Got
-raised_to None = record { number = 0; done = false }
-raised_to (Some n) = record { number = n; done = true }
-
-abbrev pub got_of : Sizes → List ℕ → Touch → Got
-got_of z cs touch.Nothing = record { number = 0; done = false }
-got_of z cs (touch.Read c) = record { number = slice_index cs (index_of z c); done = true }
-got_of z cs (touch.Swap c old new) = record { number = 0; done = is_yes (swap_of cs (index_of z c) old) }
-got_of z cs touch.Raise = raised_to (raise_of cs (index_of z cell.Clock) z.top)
-got_of z cs (touch.Link c h r) = record { number = 0; done = link_done z cs c h r }
+-- the number that the cell held, where the operation was done
+abbrev pub got_of : Sizes → List ℕ → Touch → Option ℕ
+got_of z cs touch.Nothing = None
+got_of z cs (touch.Read c) = Some (slice_index cs (index_of z c))
+got_of z cs (touch.Swap c old new) = then_some (unwrap_or (swap_of cs (index_of z c) old) false) old
+got_of z cs touch.Raise = raise_of cs (index_of z cell.Clock) z.top
+got_of z cs (touch.Link c h r) = then_some (link_done z cs c h r) h
 
 abbrev pub cells_after : Sizes → List ℕ → Touch → List ℕ
 cells_after z cs touch.Nothing = cs

@@ -21,23 +21,12 @@ use Rattle.stepper.specs.Turns.{worker_at, answer_at, turned}
 
 abbrev pub is_idle : Place → Bool
 is_idle place.Idle = true
-is_idle (place.Head l) = false
-is_idle (place.Settle st p) = false
-is_idle (place.Link c h) = false
-is_idle (place.End c r) = false
-is_idle (place.LostHead i) = false
-is_idle (place.Raise v) = false
-is_idle (place.WalkHead k) = false
-is_idle (place.WalkOlder k r) = false
+is_idle p = false
 
 -- a snapshot or reach is refused while the worker's page is out
 abbrev pub page_free : PageState → Result Call Refusal → Result Call Refusal
-page_free page.Unfinished c = c
-page_free page.Finished c = c
-page_free page.Out (Err e) = Err e
-page_free page.Out (Ok (call.Vertex o i)) = Ok (call.Vertex o i)
-page_free page.Out (Ok (call.Edge o p)) = Ok (call.Edge o p)
 page_free page.Out (Ok (call.Survey v)) = Err PageOut
+page_free p c = c
 
 -- the call that a begin begins, or the first refusal that holds: no such worker, worker busy, no such call, a used key outside, a weight outside, page is out
 abbrev pub begun_as : State → Begin → Result Call Refusal
@@ -48,9 +37,8 @@ begun_as s b =
 
 -- beginning a snapshot or reach makes the page unfinished
 abbrev pub page_begun : PageState → Call → PageState
-page_begun p (call.Vertex o i) = p
-page_begun p (call.Edge o q) = p
 page_begun p (call.Survey v) = page.Unfinished
+page_begun p c = p
 
 abbrev pub begun : Worker → Call → Worker
 begun v c = record { place = place_first c; page = page_begun v.page c; serial = v.serial; vlinked = v.vlinked; elinked = v.elinked; book = v.book }

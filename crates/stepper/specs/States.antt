@@ -11,4 +11,4 @@ pub record State : Type 0 where
 
 -- what a run over a memory stands for
 abbrev pub state_of : {M : Type 0} → (M → List ℕ) → Run M → State
-state_of cells_of r = record { cells = cells_of r.memory; sizes = r.sizes; workers = r.table.workers }
+state_of cells_of r = record { cells = cells_of r.board.memory; sizes = r.board.sizes; workers = r.table.workers }

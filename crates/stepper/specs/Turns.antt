@@ -6,7 +6,7 @@ use Rattle.layout.specs.declared.names.Kind.{Kind}
 use Rattle.layout.specs.declared.names.Cell.{Cell}
 use Rattle.layout.specs.declared.names.Cell.TheVariants as cell
 use Rattle.layout.specs.Layout.{index_of}
-use Rattle.layout.specs.Rows.{row_at, no_row}
+use Rattle.layout.specs.Rows.{row_at}
 use Rattle.places.specs.declared.place.Hand.{Hand}
 use Rattle.places.specs.declared.place.Place.{Place}
 use Rattle.places.specs.declared.place.Touch.{Touch}
@@ -26,16 +26,12 @@ worker_at s w = slice_index_or s.workers w nobody
 abbrev pub cell_at : Sizes → List ℕ → Cell → ℕ
 cell_at z cs c = slice_index cs (index_of z c)
 
-abbrev pub row_or0 : Option ℕ → ℕ
-row_or0 None = no_row
-row_or0 (Some r) = r
+-- the row that comes next: of a worker's own rows of a kind, in order, the first not linked yet
+abbrev pub next_row : Sizes → ℕ → Worker → Kind → Option ℕ
+next_row z w v k = row_at z k w (linked_of v k)
 
--- the row that comes next: of a worker's own rows of a kind, in order, the first not linked yet; 0 where all are linked
-abbrev pub next_row : Sizes → ℕ → Worker → Kind → ℕ
-next_row z w v k = row_or0 (row_at z k w (linked_of v k))
-
-abbrev pub spare_for : Sizes → ℕ → Worker → Option Kind → ℕ
-spare_for z w v None = 0
+abbrev pub spare_for : Sizes → ℕ → Worker → Option Kind → Option ℕ
+spare_for z w v None = None
 spare_for z w v (Some k) = next_row z w v k
 
 abbrev pub older_at : Sizes → List ℕ → Option (Kind × ℕ) → ℕ

@@ -1,7 +1,8 @@
 -- The record of a worker: at the opening, and after a turn.
 use Rattle.std.specs.Prelude.{ℕ, ◌+◌, ◌-◌, ◌^◌, min, Bool, true, false, cond, List, [], replicate, Some, None, Option}
+use Rattle.std.specs.declared.ops.ControlFlow.TheVariants.{Continue, Break}
 use Rattle.codes.specs.declared.answer.Answer.{Answer}
-use Rattle.codes.specs.declared.answer.Answer.TheVariants.{VertexAdded, VertexAlready, VertexRemoved, VertexAbsent, VertexPresent, EdgeAdded, EdgeAlready, EdgeRemoved, EdgeAbsent, EdgePresent, SnapshotTaken, ReachTaken, RowsSpent, ClockSpent}
+use Rattle.codes.specs.declared.answer.Answer.TheVariants.{SnapshotTaken, ReachTaken}
 use Rattle.layout.specs.declared.names.Kind.{Kind}
 use Rattle.layout.specs.declared.names.Kind.TheVariants.{Vertex, Edge}
 use Rattle.layout.specs.declared.names.Field.TheVariants.{Ins}
@@ -10,10 +11,9 @@ use Rattle.places.specs.declared.place.Place.{Place}
 use Rattle.places.specs.declared.place.Place.TheVariants.{Idle, Settle, WalkHead}
 use Rattle.places.specs.declared.place.Purpose.TheVariants.{Own}
 use Rattle.places.specs.declared.place.Stage.TheVariants.{First}
-use Rattle.places.specs.declared.place.Out.{Out}
-use Rattle.places.specs.declared.place.Out.TheVariants.{Go, Done}
 use Rattle.places.specs.declared.place.Next.{Next}
 use Rattle.places.specs.declared.place.Next.TheVariants as next
+use Rattle.places.specs.Outs.{Out}
 use Rattle.places.specs.Touches.{change_kind}
 use Rattle.places.specs.Walks.{first_job}
 use Rattle.books.specs.declared.book.Book.{Book}
@@ -23,6 +23,7 @@ use Rattle.books.specs.Books.{blank}
 use Rattle.books.specs.Walked.{walked_of, Outcome}
 use Rattle.stepper.specs.declared.worker.PageState.TheVariants.{Unfinished, Finished}
 use Rattle.stepper.specs.declared.worker.Worker.{Worker}
+use Rattle.stepper.specs.declared.worker.Step.{Step}
 
 -- idle, with no page and no row linked
 abbrev pub fresh : Worker
@@ -30,7 +31,7 @@ fresh = record { place = Idle; page = Unfinished; serial = 0; vlinked = 0; elink
 
 -- there is no record past the table; a look there gives this one
 abbrev pub nobody : Worker
-nobody = record { place = Idle; page = Unfinished; serial = 0; vlinked = 0; elinked = 0; book = record { t = 0; keys = []; rows = []; seen = []; queue = []; len = 0 } }
+nobody = record { place = Idle; page = Unfinished; serial = 0; vlinked = 0; elinked = 0; book = record { t = 0; keys = []; rows = []; queue = []; len = 0 } }
 
 abbrev pub fresh_table : List Worker
 fresh_table = replicate 8 fresh
@@ -49,32 +50,21 @@ at v p = record { place = p; page = v.page; serial = v.serial; vlinked = v.vlink
 
 -- 30 and 31 finish a page
 abbrev pub finishes : Answer → Bool
-finishes VertexAdded = false
-finishes VertexAlready = false
-finishes VertexRemoved = false
-finishes VertexAbsent = false
-finishes VertexPresent = false
-finishes EdgeAdded = false
-finishes EdgeAlready = false
-finishes EdgeRemoved = false
-finishes EdgeAbsent = false
-finishes EdgePresent = false
 finishes SnapshotTaken = true
 finishes ReachTaken = true
-finishes RowsSpent = false
-finishes ClockSpent = false
+finishes a = false
 
 abbrev pub finished : Worker → Worker
 finished v = record { place = Idle; page = Finished; serial = more v.serial; vlinked = v.vlinked; elinked = v.elinked; book = v.book }
 
 -- a worker that answers is idle
 abbrev pub arrived : Worker → Out → Worker
-arrived v (Go p) = at v p
-arrived v (Done a) = cond (finishes a) (finished v) (at v Idle)
+arrived v (Continue p) = at v p
+arrived v (Break a) = cond (finishes a) (finished v) (at v Idle)
 
 abbrev pub out_answer : Out → Option Answer
-out_answer (Go p) = None
-out_answer (Done a) = Some a
+out_answer (Continue p) = None
+out_answer (Break a) = Some a
 
 abbrev pub counted : Worker → Kind → Worker
 counted v Vertex = record { place = v.place; page = v.page; serial = v.serial; vlinked = more v.vlinked; elinked = v.elinked; book = v.book }
@@ -88,6 +78,9 @@ pub record Turned : Type 0 where
   pub worker : Worker
   pub answer : Option Answer
   pub entry : Entry
+
+abbrev pub after_step : Worker → Step → Turned
+after_step v s = record { worker = v; answer = s.answer; entry = s.entry }
 
 abbrev pub served : Worker → Outcome → Turned
 served v o = record { worker = arrived (with_book v o.book) o.out; answer = out_answer o.out; entry = o.entry }

@@ -1,13 +1,12 @@
 // Beginning a call.
-ghost use Rattle.std.specs.Prelude.{◌≡◌, ◌<◌, slice_index_or, slice_set};
+ghost use Rattle.std.specs.Prelude.{◌≡◌, Ok, Err, MatchResult};
 ghost use Rattle.stepper.specs.States.{state_of};
-ghost use Rattle.stepper.specs.Workers.{nobody};
 ghost use Rattle.stepper.specs.Requests.{is_idle, page_free, begun_as, begun, state_begun, done_or};
 ghost use Rattle.stepper.specs.History.{Extends};
 ghost use Rattle.stepper.specs.declared.request.Request.TheVariants.{Begin as AsBegin};
 
 use crate::run::Run;
-use crate::table::Table;
+use crate::seat::Seat;
 use crate::worker::{PageState, Worker};
 use cells::CellMemory;
 use codes::Refusal;
@@ -22,16 +21,16 @@ impl Worker {
     }
 
     // A snapshot or reach is refused while the page is out.
-    fn page_free(&self, call: Result<Call, Refusal>) -> Result<Call, Refusal>
-        ensures { result ≡ page_free self.now.page call }
+    fn page_free(&self, call: Call) -> Result<Call, Refusal>
+        ensures { result ≡ page_free self.now.page (Ok call) }
     {
         match (self.page, call) {
-            (PageState::Out, Ok(Call::Survey(_))) => Err(Refusal::PageOut),
-            (_, call) => call,
+            (PageState::Out, Call::Survey(_)) => Err(Refusal::PageOut),
+            _ => Ok(call),
         }
     }
 
-    fn begin(&mut self, call: Call)
+    pub(crate) fn begin(&mut self, call: Call)
         ensures { self.new ≡ begun self.old call }
     {
         self.place = call.first();
@@ -41,30 +40,18 @@ impl Worker {
     }
 }
 
-impl Table {
-    // One worker's record is lent for change; the others stay.
-    fn begin(&mut self, w: usize, call: Call)
-        requires { w < 8 }
-        ensures { self.new.workers ≡ slice_set self.old.workers w (begun (slice_index_or self.old.workers w nobody) call) }
-    {
-        let worker = &mut self.workers[w];
-        worker.begin(call);
-    }
-}
-
 impl<M: CellMemory> Run<M> {
-    // The call that a begin begins, or the first refusal that holds.
-    fn begun_as(&self, begin: Begin) -> Result<Call, Refusal>
-        ensures { result ≡ begun_as (state_of M.cells self.now) begin }
+    // The seat and the call that a begin begins, or the first refusal that holds.
+    fn begun_as(&self, begin: Begin) -> Result<(Seat, Call), Refusal>
+        ensures { MatchResult result (λ p. (p.0.index ≡ begin.worker) × (begun_as (state_of M.cells self.now) begin ≡ Ok p.1)) (λ e. begun_as (state_of M.cells self.now) begin ≡ Err e) }
     {
-        let w = begin.worker as usize;
-        if w >= self.sizes.workers {
-            return Err(Refusal::NoSuchWorker);
-        }
-        if !self.table.workers[w].is_idle() {
+        let seat = self.seat(begin.worker)?;
+        let worker = self.table.worker(seat);
+        if !worker.is_idle() {
             return Err(Refusal::WorkerBusy);
         }
-        self.table.workers[w].page_free(begin.call_of(self.sizes.keys))
+        let call = worker.page_free(begin.call_of(self.board.sizes.keys)?)?;
+        Ok((seat, call))
     }
 
     pub fn begin(&mut self, begin: Begin) -> Result<(), Refusal>
@@ -72,12 +59,8 @@ impl<M: CellMemory> Run<M> {
         ensures after { state_of M.cells self.new ≡ state_begun (state_of M.cells self.old) begin.worker (begun_as (state_of M.cells self.old) begin) }
         ensures history { Extends (state_of M.cells self.old) (state_of M.cells self.new) (AsBegin begin) (done_or result) }
     {
-        match self.begun_as(begin) {
-            Ok(call) => {
-                self.table.begin(begin.worker as usize, call);
-                Ok(())
-            }
-            Err(refusal) => Err(refusal),
-        }
+        let (seat, call) = self.begun_as(begin)?;
+        self.table.begin(seat, call);
+        Ok(())
     }
 }

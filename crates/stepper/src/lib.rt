@@ -2,11 +2,13 @@
 #![tactic(auto)]
 
 pub mod begin;
+pub(crate) mod board;
 pub mod laws;
 pub mod open;
 pub mod perform;
 pub mod request;
 pub mod run;
+pub mod seat;
 pub mod several;
 pub mod table;
 pub mod turn;

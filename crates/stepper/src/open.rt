@@ -1,8 +1,10 @@
 // Opening a run.
-ghost use Rattle.std.specs.Prelude.{◌≡◌, ◌≤◌, length};
-ghost use Rattle.stepper.specs.Opening.{cleared, opened_cells, too_few, opened, opened_or, reopened};
+ghost use Rattle.std.specs.Prelude.{◌≡◌, length, nat_lt, if◌then◌else◌};
+ghost use Rattle.layout.specs.Layout.{needed};
+ghost use Rattle.stepper.specs.Opening.{opened_cells, too_few, opened, opened_or, reopened};
 ghost use Rattle.stepper.specs.States.{state_of};
 
+use crate::board::Board;
 use crate::run::Run;
 use crate::table::Table;
 use cells::CellMemory;
@@ -10,28 +12,22 @@ use codes::Refusal;
 use layout::names::Cell;
 use layout::sizes::Sizes;
 
-// Sets the first `n` cells to 0.
-fn clear<M: CellMemory>(memory: &mut M, n: usize)
-    requires { n ≤ length (M.cells memory.old) }
-    ensures { M.cells memory.new ≡ cleared n (M.cells memory.old) }
-{
-    for i in 0..n {
-        let _ = memory.write(i, 0);
+impl<M: CellMemory> Board<M> {
+    // Makes the cells that new sizes need those of an empty graph, where there are enough.
+    fn prepare(&mut self, sizes: Sizes) -> Result<(), Refusal>
+        ensures answer { result ≡ too_few (M.cells self.old.memory) sizes }
+        ensures after { M.cells self.new.memory ≡ opened_cells (M.cells self.old.memory) sizes }
+        ensures sizes { self.new.sizes ≡ (if nat_lt (length (M.cells self.old.memory)) (needed sizes) then self.old.sizes else sizes) }
+    {
+        let needed = sizes.needed();
+        if self.memory.len() < needed {
+            return Err(Refusal::TooFewCells);
+        }
+        self.sizes = sizes;
+        self.zero(0, needed);
+        self.set(Cell::Clock, 1);
+        Ok(())
     }
-}
-
-// Makes the needed cells those of an empty graph, where there are enough.
-fn prepare<M: CellMemory>(memory: &mut M, sizes: Sizes) -> Result<(), Refusal>
-    ensures answer { result ≡ too_few (M.cells memory.old) sizes }
-    ensures after { M.cells memory.new ≡ opened_cells (M.cells memory.old) sizes }
-{
-    let needed = sizes.needed();
-    if memory.len() < needed {
-        return Err(Refusal::TooFewCells);
-    }
-    clear(memory, needed);
-    let _ = memory.write(sizes.index(Cell::Clock), 1);
-    Ok(())
 }
 
 impl<M: CellMemory> Run<M> {
@@ -39,14 +35,13 @@ impl<M: CellMemory> Run<M> {
     pub fn open(memory: M, sizes: Sizes) -> Result<Run<M>, (M, Refusal)>
         ensures { opened_or M.cells result ≡ opened (M.cells memory) sizes }
     {
-        let mut memory = memory;
-        match prepare(&mut memory, sizes) {
+        let mut board = Board { memory, sizes };
+        match board.prepare(sizes) {
             Ok(()) => Ok(Run {
-                memory,
-                sizes,
+                board,
                 table: Table::fresh(),
             }),
-            Err(refusal) => Err((memory, refusal)),
+            Err(refusal) => Err((board.memory, refusal)),
         }
     }
 
@@ -55,8 +50,7 @@ impl<M: CellMemory> Run<M> {
         ensures answer { result ≡ too_few (state_of M.cells self.old).cells sizes }
         ensures after { state_of M.cells self.new ≡ reopened (state_of M.cells self.old) sizes }
     {
-        prepare(&mut self.memory, sizes)?;
-        self.sizes = sizes;
+        self.board.prepare(sizes)?;
         self.table = Table::fresh();
         Ok(())
     }

@@ -1,98 +1,74 @@
 // The touches of a turn, on any cell memory.
-ghost use Rattle.std.specs.Prelude.{◌≡◌, ◌+◌, ◌<◌};
-ghost use Rattle.stepper.specs.Effects.{filled, linked_cells, link_done, got_of, cells_after, zeroed, entered};
+ghost use Rattle.std.specs.Prelude.{◌≡◌};
+ghost use Rattle.stepper.specs.Effects.{filled, linked_cells, link_done, got_of, cells_after, entered};
 
+use crate::board::Board;
 use books::walked::Entry;
 use cells::CellMemory;
 use layout::names::{Cell, Field};
-use layout::sizes::Sizes;
 use places::mark::PENDING;
 use places::place::{Change, Got, Touch};
 
-// Fills a worker's own row: older is the head that was read, ins pending, del 0, and an edge row is bound.
-fn fill<M: CellMemory>(memory: &mut M, sizes: Sizes, change: Change, head: u32, row: u32)
-    ensures { M.cells memory.new ≡ filled sizes (M.cells memory.old) change head row }
-{
-    let kind = change.kind();
-    let _ = memory.write(sizes.index(Cell::Older(kind, row)), head);
-    let _ = memory.write(sizes.index(Cell::Stamp(kind, Field::Ins, row)), PENDING);
-    let _ = memory.write(sizes.index(Cell::Stamp(kind, Field::Del, row)), 0);
-    if let Change::Edge(pair, s, d) = change {
-        let _ = memory.write(sizes.index(Cell::Source(row)), s);
-        let _ = memory.write(sizes.index(Cell::Target(row)), d);
-        let _ = memory.write(sizes.index(Cell::Weight(row)), pair.weight);
-    }
-}
-
-// Fills a row and swaps the head to it.
-fn link<M: CellMemory>(memory: &mut M, sizes: Sizes, change: Change, head: u32, row: u32) -> bool
-    ensures answer { result ≡ link_done sizes (M.cells memory.old) change head row }
-    ensures after { M.cells memory.new ≡ linked_cells sizes (M.cells memory.old) change head row }
-{
-    fill(memory, sizes, change, head, row);
-    memory
-        .swap(sizes.index(Cell::Head(change.head())), head, row)
-        .unwrap_or(false)
-}
-
-// Does one touch, and says what it gave.
-pub fn perform<M: CellMemory>(memory: &mut M, sizes: Sizes, touch: Touch) -> Got
-    ensures answer { result ≡ got_of sizes (M.cells memory.old) touch }
-    ensures after { M.cells memory.new ≡ cells_after sizes (M.cells memory.old) touch }
-{
-    match touch {
-        Touch::Nothing => Got {
-            number: 0,
-            done: false,
-        },
-        Touch::Read(cell) => Got {
-            number: memory.read(sizes.index(cell)).unwrap_or(0),
-            done: true,
-        },
-        Touch::Swap(cell, old, new) => Got {
-            number: 0,
-            done: memory.swap(sizes.index(cell), old, new).unwrap_or(false),
-        },
-        Touch::Link(change, head, row) => Got {
-            number: 0,
-            done: link(memory, sizes, change, head, row),
-        },
-        Touch::Raise => match memory.raise(sizes.index(Cell::Clock), sizes.top) {
-            Some(number) => Got { number, done: true },
-            None => Got {
-                number: 0,
-                done: false,
-            },
-        },
-    }
-}
-
-// Sets `n` cells to 0.
-fn zero<M: CellMemory>(memory: &mut M, start: usize, n: usize)
-    requires { start + n < 4294967296 }
-    ensures { M.cells memory.new ≡ zeroed (M.cells memory.old) start n }
-{
-    for k in 0..n {
-        let _ = memory.write(start + k, 0);
-    }
-}
-
-// Writes into a worker's page.
-pub fn enter<M: CellMemory>(memory: &mut M, sizes: Sizes, w: u8, entry: Entry)
-    ensures { M.cells memory.new ≡ entered sizes w (M.cells memory.old) entry }
-{
-    match entry {
-        Entry::Nothing => {}
-        Entry::Clear => zero(memory, sizes.page_start(w), sizes.page_size()),
-        Entry::Key(key, row) => {
-            let _ = memory.write(sizes.index(Cell::PageKey(w, key)), row);
+impl<M: CellMemory> Board<M> {
+    // Fills a worker's own row: older is the head that was read, ins pending, del 0, and an edge row is bound.
+    fn fill(&mut self, change: Change, head: u32, row: u32)
+        ensures after { M.cells self.new.memory ≡ filled self.old.sizes (M.cells self.old.memory) change head row }
+        ensures sizes { self.new.sizes ≡ self.old.sizes }
+    {
+        let kind = change.kind();
+        self.set(Cell::Older(kind, row), head);
+        self.set(Cell::Stamp(kind, Field::Ins, row), PENDING);
+        self.set(Cell::Stamp(kind, Field::Del, row), 0);
+        if let Change::Edge(bound) = change {
+            self.set(Cell::Source(row), bound.source);
+            self.set(Cell::Target(row), bound.target);
+            self.set(Cell::Weight(row), bound.pair.weight);
         }
-        Entry::Pair(from, to, weight) => {
-            let _ = memory.write(sizes.index(Cell::PagePair(w, from, to)), weight);
+    }
+
+    // Fills a row and swaps the head to it.
+    fn link(&mut self, change: Change, head: u32, row: u32) -> bool
+        ensures answer { result ≡ link_done self.old.sizes (M.cells self.old.memory) change head row }
+        ensures after { M.cells self.new.memory ≡ linked_cells self.old.sizes (M.cells self.old.memory) change head row }
+        ensures sizes { self.new.sizes ≡ self.old.sizes }
+    {
+        self.fill(change, head, row);
+        self.swap(Cell::Head(change.head()), head, row)
+    }
+
+    // Does one touch, and says what it gave.
+    pub(crate) fn perform(&mut self, touch: Touch) -> Got
+        ensures answer { result ≡ got_of self.old.sizes (M.cells self.old.memory) touch }
+        ensures after { M.cells self.new.memory ≡ cells_after self.old.sizes (M.cells self.old.memory) touch }
+        ensures sizes { self.new.sizes ≡ self.old.sizes }
+    {
+        match touch {
+            Touch::Nothing => None,
+            Touch::Read(cell) => Some(self.get(cell)),
+            Touch::Swap(cell, old, new) => self.swap(cell, old, new).then_some(old),
+            Touch::Link(change, head, row) => self.link(change, head, row).then_some(head),
+            Touch::Raise => self.raise(),
         }
-        Entry::Join(from, to, weight, row) => {
-            let _ = memory.write(sizes.index(Cell::PagePair(w, from, to)), weight);
-            let _ = memory.write(sizes.index(Cell::PageKey(w, to)), row);
+    }
+
+    // Writes into a worker's page.
+    pub(crate) fn enter(&mut self, w: u8, entry: Entry)
+        ensures after { M.cells self.new.memory ≡ entered self.old.sizes w (M.cells self.old.memory) entry }
+        ensures sizes { self.new.sizes ≡ self.old.sizes }
+    {
+        match entry {
+            Entry::Nothing => {}
+            Entry::Clear => {
+                let start = self.sizes.page_start(w);
+                let n = self.sizes.page_size();
+                self.zero(start, n)
+            }
+            Entry::Key(key, row) => self.set(Cell::PageKey(w, key), row),
+            Entry::Pair(from, to, weight) => self.set(Cell::PagePair(w, from, to), weight),
+            Entry::Join(from, to, weight, row) => {
+                self.set(Cell::PagePair(w, from, to), weight);
+                self.set(Cell::PageKey(w, to), row);
+            }
         }
     }
 }

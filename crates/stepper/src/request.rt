@@ -2,14 +2,14 @@
 use codes::{Answer, Refusal};
 use places::call::Begin;
 
-#[derive(Clone, Copy)]
+#[derive(Clone, Copy, PartialEq, Eq, Debug)]
 pub enum Request {
     Begin(Begin),
     Turn(u8),
 }
 
 // Done: a begin that was accepted. Running: a turn that did not answer.
-#[derive(Clone, Copy)]
+#[derive(Clone, Copy, PartialEq, Eq, Debug)]
 pub enum Reply {
     Done,
     Running,

@@ -1,10 +1,9 @@
-// A run: a cell memory, held by value, beside the sizes and the records of the workers.
+// A run: a board, held by value, beside the records of the workers.
+use crate::board::Board;
 use crate::table::Table;
-use layout::sizes::Sizes;
 
 #[derive(Drop)]
 pub struct Run<M> {
-    pub(crate) memory: M,
-    pub(crate) sizes: Sizes,
+    pub(crate) board: Board<M>,
     pub(crate) table: Table,
 }

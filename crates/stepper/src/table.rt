@@ -1,12 +1,14 @@
 // The records of all workers; an opening uses as many as its sizes say.
-ghost use Rattle.std.specs.Prelude.{◌≡◌, ◌<◌, slice_index_or, slice_set};
-ghost use Rattle.stepper.specs.Workers.{nobody, fresh_table, followed};
+ghost use Rattle.std.specs.Prelude.{◌≡◌, slice_index_or, slice_set};
+ghost use Rattle.stepper.specs.Requests.{begun};
+ghost use Rattle.stepper.specs.Workers.{nobody, fresh_table, after_step, followed};
 
+use crate::seat::Seat;
 use crate::worker::{Step, Worker};
 use layout::sizes::Sizes;
-use places::place::{Hand, Next};
+use places::place::{Call, Hand, Next};
 
-#[derive(Clone, Copy)]
+#[derive(Clone, Copy, PartialEq, Eq, Debug)]
 pub struct Table {
     pub workers: [Worker; 8],
 }
@@ -20,14 +22,25 @@ impl Table {
         }
     }
 
-    // One worker's record is lent for change; the others stay.
-    pub(crate) fn follow(&mut self, w: usize, sizes: Sizes, hand: Hand, next: Next) -> Step
-        requires { w < 8 }
-        ensures after { self.new.workers ≡ slice_set self.old.workers w (followed sizes.keys (slice_index_or self.old.workers w nobody) hand next).worker }
-        ensures answer { result.answer ≡ (followed sizes.keys (slice_index_or self.old.workers w nobody) hand next).answer }
-        ensures entry { result.entry ≡ (followed sizes.keys (slice_index_or self.old.workers w nobody) hand next).entry }
+    pub(crate) fn worker(&self, seat: Seat) -> &Worker
+        ensures { result.now ≡ slice_index_or self.now.workers seat.index nobody }
     {
-        let worker = &mut self.workers[w];
+        &self.workers[seat.index as usize]
+    }
+
+    // One worker's record is lent for change; the others stay.
+    pub(crate) fn begin(&mut self, seat: Seat, call: Call)
+        ensures { self.new.workers ≡ slice_set self.old.workers seat.index (begun (slice_index_or self.old.workers seat.index nobody) call) }
+    {
+        let worker = &mut self.workers[seat.index as usize];
+        worker.begin(call);
+    }
+
+    pub(crate) fn follow(&mut self, seat: Seat, sizes: Sizes, hand: Hand, next: Next) -> Step
+        ensures workers { self.new.workers ≡ slice_set self.old.workers seat.index (followed sizes.keys (slice_index_or self.old.workers seat.index nobody) hand next).worker }
+        ensures step { after_step (followed sizes.keys (slice_index_or self.old.workers seat.index nobody) hand next).worker result ≡ followed sizes.keys (slice_index_or self.old.workers seat.index nobody) hand next }
+    {
+        let worker = &mut self.workers[seat.index as usize];
         worker.follow(sizes, hand, next)
     }
 }

@@ -1,6 +1,6 @@
 // What is kept of each worker beside the cells.
 ghost use Rattle.std.specs.Prelude.{◌≡◌};
-ghost use Rattle.stepper.specs.Workers.{fresh, fresh_table, linked_of, arrived, out_answer, followed};
+ghost use Rattle.stepper.specs.Workers.{fresh, linked_of, arrived, out_answer, after_step, followed};
 
 use books::book::Book;
 use books::walked::Entry;
@@ -10,7 +10,7 @@ use layout::sizes::Sizes;
 use places::place::{Hand, Next, Out, Place, Purpose, Stage, Walk};
 
 // A worker's page: not finished, finished, or handed out with a ticket.
-#[derive(Clone, Copy)]
+#[derive(Clone, Copy, PartialEq, Eq, Debug)]
 pub enum PageState {
     Unfinished,
     Finished,
@@ -18,7 +18,7 @@ pub enum PageState {
 }
 
 // `serial` counts the pages that the worker has finished, `vlinked` and `elinked` the vertex rows and edge rows that it has linked.
-#[derive(Clone, Copy)]
+#[derive(Clone, Copy, PartialEq, Eq, Debug)]
 pub struct Worker {
     pub place: Place,
     pub page: PageState,
@@ -29,7 +29,7 @@ pub struct Worker {
 }
 
 // What a turn gave beside the worker's own record: the answer, if it answered, and what goes into the page.
-#[derive(Clone, Copy)]
+#[derive(Clone, Copy, PartialEq, Eq, Debug)]
 pub struct Step {
     pub answer: Option<Answer>,
     pub entry: Entry,
@@ -66,11 +66,11 @@ impl Worker {
         ensures after { self.new ≡ arrived self.old out }
     {
         match out {
-            Out::Go(place) => {
+            Out::Continue(place) => {
                 self.place = place;
                 None
             }
-            Out::Done(answer) => {
+            Out::Break(answer) => {
                 self.place = Place::Idle;
                 if let Answer::SnapshotTaken | Answer::ReachTaken = answer {
                     self.page = PageState::Finished;
@@ -83,9 +83,7 @@ impl Worker {
 
     // What a turn makes of the record.
     pub fn follow(&mut self, sizes: Sizes, hand: Hand, next: Next) -> Step
-        ensures after { self.new ≡ (followed sizes.keys self.old hand next).worker }
-        ensures answer { result.answer ≡ (followed sizes.keys self.old hand next).answer }
-        ensures entry { result.entry ≡ (followed sizes.keys self.old hand next).entry }
+        ensures { after_step self.new result ≡ followed sizes.keys self.old hand next }
     {
         match next {
             Next::Out(out) => Step {

@@ -1,6 +1,6 @@
-use Rattle.std.proofs.Common.{rules}
+use Rattle.std.proofs.Common.{sym}
 use Rattle.cells.proofs.FourBytes.{length-words_of}
 use Rattle.cells.proofs.image.Image.count.Goals as goal
 
-pub returns : goal.returns
-returns c = search (rules, length-words_of)
+pub returns-clause-cells : goal.returns-clause-cells
+returns-clause-cells c = sym (length-words_of c.args.self.now.bytes.now)

@@ -5,12 +5,12 @@ use Rattle.stepper.proofs.run.Run.give.Goals as goal
 
 pub returns-in-Some : goal.returns-in-Some
 returns-in-Some g c =
-    gave_answer _ (state_of g.M.CellMemory.cells c.loop-i.self) _ c.args.w c.args.n c.loop-i.i c.in-Some.answer c.loop-i-test.true c.loop-i.invariant.0 c.loop-i.invariant.1 c.in-Some.ensures.answer c.in-Some.ensures.after
+    gave_answer _ (state_of g.M.CellMemory.cells c.loop-i.self) _ c.args.seat.index c.args.n c.loop-i.i c.in-Some.answer c.loop-i-test.true c.loop-i.invariant.0 c.loop-i.invariant.1 c.in-Some.ensures.answer c.in-Some.ensures.after
 
 pub loop-i-preserved : goal.loop-i-preserved
 loop-i-preserved g c =
-    gave_more _ (state_of g.M.CellMemory.cells c.loop-i.self) _ c.args.w c.loop-i.i c.loop-i.invariant.0 c.loop-i.invariant.1 c.in_default.ensures.answer c.in_default.ensures.after
+    gave_more _ (state_of g.M.CellMemory.cells c.loop-i.self) _ c.args.seat.index c.loop-i.i c.loop-i.invariant.0 c.loop-i.invariant.1 c.in_default.ensures.answer c.in_default.ensures.after
 
 pub returns : goal.returns
 returns g c =
-    gave_all _ (state_of g.M.CellMemory.cells c.loop-i.self) c.args.w c.args.n c.loop-i.i (omega arith) c.loop-i.invariant.0 c.loop-i.invariant.1
+    gave_all _ (state_of g.M.CellMemory.cells c.loop-i.self) c.args.seat.index c.args.n c.loop-i.i (omega arith) c.loop-i.invariant.0 c.loop-i.invariant.1

@@ -6,5 +6,5 @@ use Rattle.stepper.proofs.run.Run.give.Given as goal
 
 abbrev pub invariant-loop-i : goal.invariant-loop-i
 invariant-loop-i g l =
-    (state_of g.M.CellMemory.cells l.self ≡ after (state_of g.M.CellMemory.cells l.initial.self) l.w l.i)
-    × ((k : ℕ) → k < l.i → answer_at (after (state_of g.M.CellMemory.cells l.initial.self) l.w k) l.w ≡ None)
+    (state_of g.M.CellMemory.cells l.self ≡ after (state_of g.M.CellMemory.cells l.initial.self) l.seat.index l.i)
+    × ((k : ℕ) → k < l.i → answer_at (after (state_of g.M.CellMemory.cells l.initial.self) l.seat.index k) l.seat.index ≡ None)

@@ -1,9 +1,0 @@
-use Rattle.std.proofs.Common.{◌+◌, set, sym, ap, ◌∙◌, add-one}
-use Rattle.stepper.specs.Effects.{zeroed}
-use Rattle.stepper.proofs.perform.zero.Goals as goal
-
-pub loop-k-preserved : goal.loop-k-preserved
-loop-k-preserved g c =
-    c.write.ensures.after
-    ∙ ap (λ cs. set cs (c.args.start + c.loop-k.k) 0) c.loop-k.invariant
-    ∙ ap (zeroed (g.M.CellMemory.cells c.args.memory.now) c.args.start) (sym (add-one c.loop-k.k))
