@@ -6,7 +6,7 @@ use crate::place::{Call, Look, Op, Pair, Place, Survey};
 use codes::Refusal;
 
 // What a begin names.
-#[derive(Clone, Copy)]
+#[derive(Clone, Copy, PartialEq, Eq, Debug)]
 pub struct Begin {
     pub worker: u8,
     pub call: u8,
