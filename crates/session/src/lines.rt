@@ -8,7 +8,7 @@ use cells::CellMemory;
 use frames::write_reply;
 use std::io::{BufRead, BufReader, Write};
 
-const LINE_FEED: u8 = 10;
+pub const LINE_FEED: u8 = 10;
 
 // A line without its line feed. The last line may have none.
 pub fn body(line: &[u8]) -> &[u8]
