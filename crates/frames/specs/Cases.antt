@@ -1,10 +1,9 @@
 -- Worked cases: which frame some lines are, and the lines of some replies.
-use Rattle.std.specs.Prelude.{◌≡◌, ℕ, true, false, List, [], ◌∷◌, Some, None, codes, Option}
+use Rattle.std.specs.Prelude.{◌≡◌, ℕ, true, false, List, [], ◌∷◌, Some, None, Ok, Err, codes, Option}
 use Rattle.codes.specs.declared.answer.Answer.TheVariants.{VertexAdded}
 use Rattle.codes.specs.declared.refusal.Refusal.TheVariants.{WorkerBusy, NoFinishedPage}
 use Rattle.frames.specs.declared.frame.Frame.{Frame}
 use Rattle.frames.specs.declared.frame.Frame.TheVariants.{Open, Begin, Turns, Take}
-use Rattle.frames.specs.declared.reply.Code.TheVariants.{Done, Answered, Refused}
 use Rattle.frames.specs.declared.reply.Reply.TheVariants.{ToOpen, ToBegin, ToTurns, ToTake, NoFrame}
 use Rattle.frames.specs.Hex.{bytes_of}
 use Rattle.frames.specs.Frames.{frame_in}
@@ -16,12 +15,12 @@ read line = frame_in (bytes_of line)
 
 pub record Cases : Type 0 where
   -- frames
-  pub opens : read (codes "0102020004000400000009") ≡ Some (Open 2 2 4 4 9)
-  pub begins : read (codes "0201040001000000FF") ≡ Some (Begin 1 4 0 1 255)
+  pub opens : read (codes "0102020004000400000009") ≡ Some (Open (record { keys = 2; workers = 2; vrows = 4; erows = 4; top = 9 }))
+  pub begins : read (codes "0201040001000000FF") ≡ Some (Begin (record { worker = 1; call = 4; from = 0; to = 1; weight = 255 }))
   pub turns : read (codes "0300FF") ≡ Some (Turns 0 255)
   pub small_letters : read (codes "0300ff") ≡ Some (Turns 0 255)
   pub takes : read (codes "0407") ≡ Some (Take 7)
-  pub numbers : read (codes "010303A1B2C3D4E5F60718") ≡ Some (Open 3 3 41394 50132 3858106136)
+  pub numbers : read (codes "010303A1B2C3D4E5F60718") ≡ Some (Open (record { keys = 3; workers = 3; vrows = 41394; erows = 50132; top = 3858106136 }))
   -- no frames
   pub nothing : read [] ≡ None
   pub no_turns : read (codes "030000") ≡ None
@@ -32,10 +31,10 @@ pub record Cases : Type 0 where
   pub too_long : read (codes "0300FF00") ≡ None
   pub no_kind : read (codes "0500") ≡ None
   -- replies
-  pub opened : reply_line (ToOpen Done) ≡ codes "8100"
-  pub busy : reply_line (ToBegin (Refused WorkerBusy)) ≡ codes "82E4"
-  pub added : reply_line (ToTurns (Answered VertexAdded) 6) ≡ codes "831006"
-  pub running : reply_line (ToTurns Done 255) ≡ codes "8300FF"
+  pub opened : reply_line (ToOpen (Ok None)) ≡ codes "8100"
+  pub busy : reply_line (ToBegin (Err WorkerBusy)) ≡ codes "82E4"
+  pub added : reply_line (ToTurns (Ok (Some VertexAdded)) 6) ≡ codes "831006"
+  pub running : reply_line (ToTurns (Ok None) 255) ≡ codes "8300FF"
   pub not_taken : reply_line (ToTake NoFinishedPage) ≡ codes "84EA"
   pub no_frame : reply_line NoFrame ≡ codes "FFED"
   pub page : page_line (true ∷ (false ∷ [])) (1 ∷ (4294967295 ∷ (0 ∷ (3735928559 ∷ [])))) ≡ codes "8400010000000001FFFFFFFF00000000DEADBEEF"

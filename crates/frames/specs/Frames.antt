@@ -22,8 +22,8 @@ shaped kind size bs = one bs 0 == kind && length bs == size
 -- the frame of its bytes; turns are given one at least
 abbrev pub frame_of : List ℕ → Option Frame
 frame_of bs =
-    cond (shaped 1 11 bs) (Some (Open (one bs 1) (one bs 2) (two bs 3) (two bs 5) (four bs 7)))
-    (cond (shaped 2 9 bs) (Some (Begin (one bs 1) (one bs 2) (one bs 3) (one bs 4) (four bs 5)))
+    cond (shaped 1 11 bs) (Some (Open (record { keys = one bs 1; workers = one bs 2; vrows = two bs 3; erows = two bs 5; top = four bs 7 })))
+    (cond (shaped 2 9 bs) (Some (Begin (record { worker = one bs 1; call = one bs 2; from = one bs 3; to = one bs 4; weight = four bs 5 })))
     (cond (shaped 3 3 bs && nat_le 1 (one bs 2)) (Some (Turns (one bs 1) (one bs 2)))
     (cond (shaped 4 2 bs) (Some (Take (one bs 1))) None)))
 

@@ -1,17 +1,18 @@
 -- The bytes of each reply, and its line: their digits in capitals.
-use Rattle.std.specs.Prelude.{ℕ, ◌/◌, ◌%◌, Bool, true, false, List, [], ◌∷◌, ◌++◌, map}
+use Rattle.std.specs.Prelude.{ℕ, ◌/◌, ◌%◌, Bool, true, false, List, [], ◌∷◌, ◌++◌, map, Some, None, Ok, Err, Option, Result}
 use Rattle.codes.specs.Codes.{answer_code, refusal_code}
+use Rattle.codes.specs.declared.answer.Answer.{Answer}
+use Rattle.codes.specs.declared.refusal.Refusal.{Refusal}
 use Rattle.codes.specs.declared.refusal.Refusal.TheVariants as refusal
-use Rattle.frames.specs.declared.reply.Code.{Code}
-use Rattle.frames.specs.declared.reply.Code.TheVariants.{Done, Answered, Refused}
 use Rattle.frames.specs.declared.reply.Reply.{Reply}
 use Rattle.frames.specs.declared.reply.Reply.TheVariants.{ToOpen, ToBegin, ToTurns, ToTake, NoFrame}
 use Rattle.frames.specs.Hex.{hex_of}
 
-abbrev pub code_byte : Code → ℕ
-code_byte Done = 0
-code_byte (Answered answer) = answer_code answer
-code_byte (Refused refusal) = refusal_code refusal
+-- 00 is done, or still running
+abbrev pub code_byte : Result (Option Answer) Refusal → ℕ
+code_byte (Ok None) = 0
+code_byte (Ok (Some answer)) = answer_code answer
+code_byte (Err refusal) = refusal_code refusal
 
 abbrev pub reply_bytes : Reply → List ℕ
 reply_bytes (ToOpen code) = 0x81 ∷ (code_byte code ∷ [])

@@ -18,10 +18,7 @@ fn digit(c: u8) -> Option<u8>
 pub fn byte(high: u8, low: u8) -> Option<u8>
     ensures { result ≡ byte_of (digit_of high) (digit_of low) }
 {
-    let (Some(h), Some(l)) = (digit(high), digit(low)) else {
-        return None;
-    };
-    Some(16 * h + l)
+    Some(16 * digit(high)? + digit(low)?)
 }
 
 // The capital of a digit's value.

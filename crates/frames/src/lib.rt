@@ -13,5 +13,5 @@ pub use frame::Frame;
 pub use laws::cases_stand;
 pub use line::Line;
 pub use read::parse;
-pub use reply::{Code, Reply};
+pub use reply::{Code, Reply, code_byte};
 pub use write::{write_page, write_reply};

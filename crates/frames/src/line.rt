@@ -1,61 +1,72 @@
 // The digits of a reply's line.
-ghost use Rattle.std.specs.Prelude.{◌≡◌, ◌≤◌, [], ◌∷◌, length, take};
+ghost use Rattle.std.specs.Prelude.{◌≡◌, [], ◌∷◌, ◌++◌};
+ghost use Rattle.std.specs.Option.{option_to_list};
 ghost use Rattle.frames.specs.Hex.{hex_of};
 ghost use Rattle.frames.specs.Replies.{reply_line};
 
 use crate::hex::digits;
-use crate::reply::Reply;
+use crate::reply::{Reply, code_byte};
 use codes::Refusal;
+use std::marker::Model;
 
-// The line is the first `len` digits.
-#[derive(Clone, Copy)]
+// Two or three bytes, as digits: the first `len` of them.
+#[derive(Drop)]
 pub struct Line {
-    pub digits: [u8; 6],
-    pub len: usize,
+    digits: [u8; 6],
+    len: usize,
 }
 
-// The line of two bytes.
-fn two(a: u8, b: u8) -> Line
-    ensures whole { take result.len result.digits ≡ hex_of (a ∷ (b ∷ [])) }
-    ensures short { result.len ≤ 6 }
-    ensures sized { length result.digits ≡ 6 }
-{
-    let [a1, a0] = digits(a);
-    let [b1, b0] = digits(b);
-    Line {
-        digits: [a1, a0, b1, b0, 0, 0],
-        len: 4,
+impl Model for Line {
+    ghost use Rattle.std.specs.Prelude.{ℕ, ◌≤◌, List, take};
+
+    ghost Value = { List ℕ };
+
+    ghost view = { λ line. take line.len line.digits };
+
+    ghost invariant = { λ line. line.len ≤ 6 };
+}
+
+impl Line {
+    // The line of a kind, a code and, where there is one, a count.
+    fn of(kind: u8, code: u8, count: Option<u8>) -> Line
+        ensures { result ≡ hex_of (kind ∷ (code ∷ option_to_list count)) }
+    {
+        let [k1, k0] = digits(kind);
+        let [c1, c0] = digits(code);
+        match count {
+            None => Line {
+                digits: [k1, k0, c1, c0, 0, 0],
+                len: 4,
+            },
+            Some(count) => {
+                let [n1, n0] = digits(count);
+                Line {
+                    digits: [k1, k0, c1, c0, n1, n0],
+                    len: 6,
+                }
+            }
+        }
     }
-}
 
-// The line of three bytes.
-fn three(a: u8, b: u8, c: u8) -> Line
-    ensures whole { take result.len result.digits ≡ hex_of (a ∷ (b ∷ (c ∷ []))) }
-    ensures short { result.len ≤ 6 }
-    ensures sized { length result.digits ≡ 6 }
-{
-    let [a1, a0] = digits(a);
-    let [b1, b0] = digits(b);
-    let [c1, c0] = digits(c);
-    Line {
-        digits: [a1, a0, b1, b0, c1, c0],
-        len: 6,
+    // The digits.
+    pub fn as_slice(&self) -> &[u8]
+        ensures { result.now ≡ self.now }
+    {
+        &self.digits[..self.len]
     }
 }
 
 impl Reply {
     // The line of the reply, without a line feed.
     pub fn line(self) -> Line
-        ensures whole { take result.len result.digits ≡ reply_line self }
-        ensures short { result.len ≤ 6 }
-        ensures sized { length result.digits ≡ 6 }
+        ensures { result ≡ reply_line self }
     {
         match self {
-            Reply::ToOpen(code) => two(0x81, code.byte()),
-            Reply::ToBegin(code) => two(0x82, code.byte()),
-            Reply::ToTurns(code, used) => three(0x83, code.byte(), used),
-            Reply::ToTake(refusal) => two(0x84, refusal.code()),
-            Reply::NoFrame => two(0xFF, Refusal::NoFrame.code()),
+            Reply::ToOpen(code) => Line::of(0x81, code_byte(code), None),
+            Reply::ToBegin(code) => Line::of(0x82, code_byte(code), None),
+            Reply::ToTurns(code, used) => Line::of(0x83, code_byte(code), Some(used)),
+            Reply::ToTake(refusal) => Line::of(0x84, refusal.into(), None),
+            Reply::NoFrame => Line::of(0xFF, Refusal::NoFrame.into(), None),
         }
     }
 }

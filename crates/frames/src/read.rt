@@ -1,35 +1,28 @@
 // Reading a line as a frame.
-ghost use Rattle.std.specs.Prelude.{◌≡◌, ◌≤◌, take, Some, None, MatchOption};
+ghost use Rattle.std.specs.Prelude.{◌≡◌, None, Some, MatchOption};
 ghost use Rattle.frames.specs.Hex.{bytes_of};
 ghost use Rattle.frames.specs.Frames.{frame_of, frame_in};
 
 use crate::frame::Frame;
 use crate::hex::byte;
+use layout::opening::Opening;
+use places::call::Begin;
 
 // The bytes of the longest frame.
 const LONGEST: usize = 11;
 
-// The bytes of a line into `out`, and how many they are; none where they are no frame.
-fn decode(line: &[u8], out: &mut [u8; LONGEST]) -> Option<usize>
-    ensures { MatchOption result (frame_in (bytes_of line.now) ≡ None) (λ n. (n ≤ 11) × (bytes_of line.now ≡ Some (take n out.new))) }
+// The bytes of a line, put into `out`; none where they are no frame.
+fn decode<'a>(line: &[u8], out: &'a mut [u8; LONGEST]) -> Option<&'a [u8]>
+    ensures { MatchOption result (frame_in (bytes_of line.now) ≡ None) (λ bytes. bytes_of line.now ≡ Some bytes.now) }
 {
-    let mut rest = line;
-    let mut n = 0;
-    while !rest.is_empty() {
-        if n == LONGEST {
-            return None;
-        }
-        let [high, low, more @ ..] = rest else {
-            return None;
-        };
-        let Some(b) = byte(*high, *low) else {
-            return None;
-        };
-        out[n] = b;
-        n += 1;
-        rest = more;
+    let (pairs, []) = line.as_chunks::<2>() else {
+        return None;
+    };
+    let bytes = out.get_mut(..pairs.len())?;
+    for (i, [high, low]) in pairs.iter().enumerate() {
+        bytes[i] = byte(*high, *low)?;
     }
-    Some(n)
+    Some(bytes)
 }
 
 // The frame of its bytes.
@@ -37,20 +30,20 @@ fn frame_of(bytes: &[u8]) -> Option<Frame>
     ensures { result ≡ frame_of bytes.now }
 {
     match bytes {
-        [1, keys, workers, a1, a0, b1, b0, t3, t2, t1, t0] => Some(Frame::Open {
+        [1, keys, workers, a1, a0, b1, b0, t3, t2, t1, t0] => Some(Frame::Open(Opening {
             keys: *keys,
             workers: *workers,
             vrows: u16::from_be_bytes([*a1, *a0]),
             erows: u16::from_be_bytes([*b1, *b0]),
             top: u32::from_be_bytes([*t3, *t2, *t1, *t0]),
-        }),
-        [2, worker, call, from, to, w3, w2, w1, w0] => Some(Frame::Begin {
+        })),
+        [2, worker, call, from, to, w3, w2, w1, w0] => Some(Frame::Begin(Begin {
             worker: *worker,
             call: *call,
             from: *from,
             to: *to,
             weight: u32::from_be_bytes([*w3, *w2, *w1, *w0]),
-        }),
+        })),
         [3, worker, count @ 1..=255] => Some(Frame::Turns {
             worker: *worker,
             count: *count,
@@ -65,8 +58,5 @@ pub fn parse(line: &[u8]) -> Option<Frame>
     ensures { result ≡ frame_in (bytes_of line.now) }
 {
     let mut bytes = [0; LONGEST];
-    let Some(n) = decode(line, &mut bytes) else {
-        return None;
-    };
-    frame_of(&bytes[0..n])
+    frame_of(decode(line, &mut bytes)?)
 }

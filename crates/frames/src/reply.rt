@@ -4,28 +4,21 @@ ghost use Rattle.frames.specs.Replies.{code_byte};
 
 use codes::{Answer, Refusal};
 
-// How a request went.
-#[derive(Clone, Copy)]
-pub enum Code {
-    // Done, or still running.
-    Done,
-    Answered(Answer),
-    Refused(Refusal),
-}
+// How a request went. No answer: done, or still running.
+pub type Code = Result<Option<Answer>, Refusal>;
 
-impl Code {
-    pub fn byte(self) -> u8
-        ensures { result ≡ code_byte self }
-    {
-        match self {
-            Code::Done => 0,
-            Code::Answered(answer) => answer.code(),
-            Code::Refused(refusal) => refusal.code(),
-        }
+// The byte of a code.
+pub fn code_byte(code: Code) -> u8
+    ensures { result ≡ code_byte code }
+{
+    match code {
+        Ok(None) => 0,
+        Ok(Some(answer)) => answer.into(),
+        Err(refusal) => refusal.into(),
     }
 }
 
-#[derive(Clone, Copy)]
+#[derive(Clone, Copy, PartialEq, Eq, Debug)]
 pub enum Reply {
     ToOpen(Code),
     ToBegin(Code),

@@ -1,46 +1,53 @@
 // Writing the line of a reply.
-ghost use Rattle.std.specs.Prelude.{◌≡◌, [], ◌∷◌, take, is_ok, if◌then◌else◌};
+ghost use Rattle.std.specs.Prelude.{◌≡◌, ℕ, List, [], ◌∷◌, take, is_ok, if◌then◌else◌};
+ghost use Rattle.std.specs.List.{flat_map};
 ghost use Rattle.frames.specs.Hex.{hex_of};
-ghost use Rattle.frames.specs.Replies.{reply_line, key_bytes, weight_bytes, page_line};
+ghost use Rattle.frames.specs.Replies.{reply_line, key_byte, weight_bytes, page_line};
 ghost use Rattle.frames.specs.Written.{written, Begun};
 
 use crate::hex::digits;
 use crate::reply::Reply;
 use std::alloc::AllocError;
 
-// Writes a byte.
-fn put(out: &mut Vec<u8>, b: u8) -> Result<(), AllocError>
-    ensures { out.new.items ≡ written result out.old.items (hex_of (b ∷ [])) }
-{
-    out.extend_from_slice(&digits(b))
+// An item of a page, and its bytes.
+trait Bytes {
+    ghost bytes_of: { Self → List ℕ };
+
+    // Writes the bytes, or a part of them.
+    fn put(&self, out: &mut Vec<u8>) -> Result<(), AllocError>
+        ensures { Begun result out.old.items out.new.items (hex_of (bytes_of self.now)) };
 }
 
-// Writes bytes, or a part of them.
-fn put_all(out: &mut Vec<u8>, bytes: &[u8]) -> Result<(), AllocError>
-    ensures { Begun result out.old.items out.new.items (hex_of bytes.now) }
-{
-    for b in bytes {
-        put(out, *b)?;
+impl Bytes for u8 {
+    ghost bytes_of = { λ b. b ∷ [] };
+
+    fn put(&self, out: &mut Vec<u8>) -> Result<(), AllocError> {
+        out.extend_from_slice(&digits(*self))
     }
-    Ok(())
 }
 
-// Writes a byte for each key, or a part of them.
-fn put_keys(out: &mut Vec<u8>, keys: &[bool]) -> Result<(), AllocError>
-    ensures { Begun result out.old.items out.new.items (hex_of (key_bytes keys.now)) }
-{
-    for key in keys {
-        put(out, *key as u8)?;
+impl Bytes for bool {
+    ghost bytes_of = { λ key. key_byte key ∷ [] };
+
+    fn put(&self, out: &mut Vec<u8>) -> Result<(), AllocError> {
+        u8::from(*self).put(out)
     }
-    Ok(())
 }
 
-// Writes four bytes for each weight, or a part of them.
-fn put_weights(out: &mut Vec<u8>, weights: &[u32]) -> Result<(), AllocError>
-    ensures { Begun result out.old.items out.new.items (hex_of (weight_bytes weights.now)) }
+impl Bytes for u32 {
+    ghost bytes_of = { λ weight. weight_bytes (weight ∷ []) };
+
+    fn put(&self, out: &mut Vec<u8>) -> Result<(), AllocError> {
+        put_all(out, &self.to_be_bytes())
+    }
+}
+
+// Writes items, or a part of them.
+fn put_all<T: Bytes>(out: &mut Vec<u8>, items: &[T]) -> Result<(), AllocError>
+    ensures { Begun result out.old.items out.new.items (hex_of (flat_map T.bytes_of items.now)) }
 {
-    for weight in weights {
-        put_all(out, &weight.to_be_bytes())?;
+    for item in items {
+        item.put(out)?;
     }
     Ok(())
 }
@@ -49,9 +56,9 @@ fn put_weights(out: &mut Vec<u8>, weights: &[u32]) -> Result<(), AllocError>
 fn put_page(out: &mut Vec<u8>, keys: &[bool], weights: &[u32]) -> Result<(), AllocError>
     ensures { Begun result out.old.items out.new.items (page_line keys.now weights.now) }
 {
-    put_all(out, &[0x84, 0x00])?;
-    put_keys(out, keys)?;
-    put_weights(out, weights)
+    put_all(out, &[0x84u8, 0x00])?;
+    put_all(out, keys)?;
+    put_all(out, weights)
 }
 
 // Takes back what was written from `start` on, unless all of it was.
@@ -69,8 +76,7 @@ fn whole(out: &mut Vec<u8>, start: usize, done: Result<(), AllocError>) -> Resul
 pub fn write_reply(out: &mut Vec<u8>, reply: Reply) -> Result<(), AllocError>
     ensures { out.new.items ≡ written result out.old.items (reply_line reply) }
 {
-    let line = reply.line();
-    out.extend_from_slice(&line.digits[0..line.len])
+    out.extend_from_slice(reply.line().as_slice())
 }
 
 // Writes the line of a page behind what `out` holds; for want of memory, nothing.

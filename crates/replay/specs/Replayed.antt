@@ -44,8 +44,3 @@ pub record Written (d : Session) (text old new : List ℕ) (n : ℕ) : Type 0 wh
   pub replayed : Replayed d text rest (take n new) session
   pub behind : drop n new ≡ drop n old
   pub ended : (rest ≡ []) ⊎ NoRoom session rest n (length new)
-
--- the same from the first n bytes on, whatever text they reply to
-pub record Onward (d : Session) (rest old : List ℕ) (n : ℕ) (new : List ℕ) (m : ℕ) : Type 0 where
-  pub grows : n ≤ m
-  pub written : (s : Session) (text : List ℕ) → Replayed s text rest (take n old) d → Written s text old new m

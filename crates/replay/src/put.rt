@@ -2,8 +2,8 @@
 ghost use Rattle.std.specs.Prelude.{◌≡◌, ◌+◌, ◌<◌, ◌≤◌, ◌++◌, length, MatchOption};
 ghost use Rattle.replay.specs.Replayed.{fed_line, Put};
 
-use crate::feed::LINE_FEED;
 use frames::Reply;
+use session::lines::LINE_FEED;
 
 // Writes the line of a reply, and a line feed, from `at` on, and says where it ends; where that does not fit whole, nothing.
 pub fn put(out: &mut [u8], at: usize, reply: Reply) -> Option<usize>
@@ -11,12 +11,12 @@ pub fn put(out: &mut [u8], at: usize, reply: Reply) -> Option<usize>
     ensures { MatchOption result ((out.new ≡ out.old) × (length out.old < at + length (fed_line reply))) (λ n. Put at reply out.old out.new n) }
 {
     let line = reply.line();
-    if out.len() - at <= line.len {
+    let line = line.as_slice();
+    if out.len() - at <= line.len() {
         return None;
     }
-    for i in 0..line.len {
-        out[at + i] = line.digits[i];
-    }
-    out[at + line.len] = LINE_FEED;
-    Some(at + line.len + 1)
+    let end = at + line.len();
+    out[at..end].copy_from_slice(line);
+    out[end] = LINE_FEED;
+    Some(end + 1)
 }

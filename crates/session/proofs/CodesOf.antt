@@ -1,12 +1,11 @@
 -- One reply has one code.
-use Rattle.std.proofs.Common.{◌≡◌, ℕ, Ok, Err, Result, refl, ap, arith}
+use Rattle.std.proofs.Common.{◌≡◌, Ok, Err, Result, refl, ap}
 use Rattle.codes.specs.declared.refusal.Refusal.{Refusal}
-use Rattle.frames.specs.declared.reply.Code.TheVariants as code
 use Rattle.stepper.specs.Requests.{done_or}
 use Rattle.session.specs.Answers.{code_of}
 
 pub code_of_same : {X Y : Type 0} (r : Result X Refusal) (x : Result Y Refusal) → done_or r ≡ done_or x → code_of r ≡ code_of x
 code_of_same (Ok a) (Ok b) e = refl
-code_of_same (Ok a) (Err b) e = let z : ◌≡◌ {A = ℕ} 0 1 = cc in absurd (omega arith)
-code_of_same (Err a) (Ok b) e = let z : ◌≡◌ {A = ℕ} 0 1 = cc in absurd (omega arith)
-code_of_same (Err a) (Err b) e = let f : a ≡ b = cc in ap code.Refused f
+code_of_same (Ok a) (Err b) e = cc
+code_of_same (Err a) (Ok b) e = cc
+code_of_same (Err a) (Err b) e = let f : a ≡ b = cc in ap Err f

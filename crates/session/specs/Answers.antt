@@ -3,13 +3,12 @@ use Rattle.std.specs.Prelude.{◌≡◌, ℕ, cond, length, Some, None, Ok, Err,
 use Rattle.codes.specs.declared.answer.Answer.{Answer}
 use Rattle.codes.specs.declared.refusal.Refusal.{Refusal}
 use Rattle.codes.specs.declared.refusal.Refusal.TheVariants.{TooFewCells}
+use Rattle.layout.specs.declared.opening.Opening.{Opening}
 use Rattle.layout.specs.declared.sizes.Sizes.{Sizes}
-use Rattle.layout.specs.Limits.{sized, numbers_of}
+use Rattle.layout.specs.Limits.{sized_as, numbers_of}
 use Rattle.layout.specs.Layout.{needed}
 use Rattle.frames.specs.declared.frame.Frame.{Frame}
 use Rattle.frames.specs.declared.frame.Frame.TheVariants as frame
-use Rattle.frames.specs.declared.reply.Code.{Code}
-use Rattle.frames.specs.declared.reply.Code.TheVariants as code
 use Rattle.frames.specs.declared.reply.Reply.{Reply}
 use Rattle.frames.specs.declared.reply.Reply.TheVariants.{ToOpen, ToBegin, ToTurns, NoFrame}
 use Rattle.places.specs.declared.call.Begin.{Begin}
@@ -21,34 +20,29 @@ use Rattle.stepper.specs.Requests.{begun_as, stepped}
 use Rattle.stepper.specs.Several.{GaveOr}
 use Rattle.session.specs.Desks.{Session, Session.Shut, Session.Running, cells_of}
 
--- code 00 is done
-abbrev pub code_of : {X : Type 0} → Result X Refusal → Code
-code_of (Ok x) = code.Done
-code_of (Err e) = code.Refused e
+-- what is done has no answer
+abbrev pub code_of : {X : Type 0} → Result X Refusal → Result (Option Answer) Refusal
+code_of (Ok x) = Ok None
+code_of (Err e) = Err e
 
--- code 00 is still running
-abbrev pub answer_code_of : Option Answer → Code
-answer_code_of None = code.Done
-answer_code_of (Some a) = code.Answered a
-
--- a refused worker has used no turn
+-- no answer is still running; a refused worker has used no turn
 abbrev pub turns_reply : Result Several Refusal → Reply
-turns_reply (Ok x) = ToTurns (answer_code_of x.answer) x.used
-turns_reply (Err e) = ToTurns (code.Refused e) 0
+turns_reply (Ok x) = ToTurns (Ok x.answer) x.used
+turns_reply (Err e) = ToTurns (Err e) 0
 
 -- sizes are refused first, then too few cells; a refusal leaves the session as it was
 abbrev pub open_reply : Session → Result Sizes Refusal → Reply
-open_reply d (Err e) = ToOpen (code.Refused e)
-open_reply d (Ok z) = ToOpen (cond (nat_lt (length (cells_of d)) (needed z)) (code.Refused TooFewCells) code.Done)
+open_reply d (Err e) = ToOpen (Err e)
+open_reply d (Ok z) = ToOpen (cond (nat_lt (length (cells_of d)) (needed z)) (Err TooFewCells) (Ok None))
 
 abbrev pub open_session : Session → Result Sizes Refusal → Session
 open_session d (Err e) = d
 open_session d (Ok z) = cond (nat_lt (length (cells_of d)) (needed z)) d (Running (opened_state (cells_of d) z))
 
--- an opening, or an opening anew, with the five numbers of the frame
-pub record Opens (n w a b t : ℕ) (d : Session) (r : Reply) (d' : Session) : Type 0 where
+-- an opening, or an opening anew
+pub record Opens (o : Opening) (d : Session) (r : Reply) (d' : Session) : Type 0 where
   pub sizes : Result Sizes Refusal
-  pub made : numbers_of sizes ≡ sized n w a b t
+  pub made : numbers_of sizes ≡ sized_as o
   pub reply : r ≡ open_reply d sizes
   pub session : d' ≡ open_session d sizes
 
@@ -70,17 +64,17 @@ pub record Gives (w n : ℕ) (s : State) (r : Reply) (d' : Session) : Type 0 whe
 
 -- Where nothing is open, only an opening is a frame. A page cannot be taken yet.
 abbrev pub Asked : Session → Frame → Reply → Session → Type 0
-Asked d (frame.Open n w a b t) r d' = Ignores d r d'
-Asked (Shut cs) (frame.Begin w c i j x) r d' = Ignores (Shut cs) r d'
+Asked d (frame.Open o) r d' = Ignores d r d'
+Asked (Shut cs) (frame.Begin b) r d' = Ignores (Shut cs) r d'
 Asked (Shut cs) (frame.Turns w n) r d' = Ignores (Shut cs) r d'
 Asked d (frame.Take w) r d' = Ignores d r d'
-Asked (Running s) (frame.Begin w c i j x) r d' = Begins (record { worker = w; call = c; from = i; to = j; weight = x }) s r d'
+Asked (Running s) (frame.Begin b) r d' = Begins b s r d'
 Asked (Running s) (frame.Turns w n) r d' = Gives w n s r d'
 
 -- which frame asks for what
 abbrev pub Replies : Session → Option Frame → Reply → Session → Type 0
 Replies d None r d' = Ignores d r d'
-Replies d (Some (frame.Open n w a b t)) r d' = Opens n w a b t d r d'
-Replies d (Some (frame.Begin w c i j x)) r d' = Asked d (frame.Begin w c i j x) r d'
+Replies d (Some (frame.Open o)) r d' = Opens o d r d'
+Replies d (Some (frame.Begin b)) r d' = Asked d (frame.Begin b) r d'
 Replies d (Some (frame.Turns w n)) r d' = Asked d (frame.Turns w n) r d'
 Replies d (Some (frame.Take w)) r d' = Asked d (frame.Take w) r d'

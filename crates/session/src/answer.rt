@@ -1,16 +1,15 @@
 // The reply to a frame.
-ghost use Rattle.std.specs.Prelude.{◌≡◌, Ok};
+ghost use Rattle.std.specs.Prelude.{◌≡◌, None, Ok};
 ghost use Rattle.frames.specs.Frames.{frame_in};
 ghost use Rattle.frames.specs.Hex.{bytes_of};
-ghost use Rattle.layout.specs.Limits.{sized, numbers_of};
 ghost use Rattle.stepper.specs.States.{state_of};
 ghost use Rattle.session.specs.Desks.{session_of, Session.Running as Serving, Session.Shut as Waiting};
-ghost use Rattle.session.specs.Answers.{answer_code_of, open_reply, open_session, Begins, Gives, Asked, Replies};
+ghost use Rattle.session.specs.Answers.{Opens, Begins, Gives, Replies};
 
 use crate::desk::Desk;
 use cells::CellMemory;
-use codes::{Answer, Refusal};
 use frames::{Code, Frame, Reply};
+use layout::opening::Opening;
 use layout::sizes::Sizes;
 use places::call::Begin;
 use stepper::run::Run;
@@ -22,70 +21,46 @@ pub struct Answered<M> {
     pub reply: Reply,
 }
 
-fn answer_code(answer: Option<Answer>) -> Code
-    ensures { result ≡ answer_code_of answer }
-{
-    match answer {
-        Some(answer) => Code::Answered(answer),
-        None => Code::Done,
-    }
-}
-
 fn begin<M: CellMemory>(run: &mut Run<M>, begin: Begin) -> Reply
     ensures { Begins begin (state_of M.cells run.old) result (Serving (state_of M.cells run.new)) }
 {
-    match run.begin(begin) {
-        Ok(()) => Reply::ToBegin(Code::Done),
-        Err(refusal) => Reply::ToBegin(Code::Refused(refusal)),
-    }
+    Reply::ToBegin(run.begin(begin).map(|()| None))
 }
 
+// A refused worker has used no turn.
 fn turns<M: CellMemory>(run: &mut Run<M>, worker: u8, count: u8) -> Reply
     ensures { Gives worker count (state_of M.cells run.old) result (Serving (state_of M.cells run.new)) }
 {
     match run.turns(worker, count) {
-        Ok(several) => Reply::ToTurns(answer_code(several.answer), several.used),
-        Err(refusal) => Reply::ToTurns(Code::Refused(refusal), 0),
+        Ok(several) => Reply::ToTurns(Ok(several.answer), several.used),
+        Err(refusal) => Reply::ToTurns(Err(refusal), 0),
     }
-}
-
-// The sizes that an opening asks for.
-fn sizes_of(keys: u8, workers: u8, vrows: u16, erows: u16, top: u32) -> Result<Sizes, Refusal>
-    ensures { numbers_of result ≡ sized keys workers vrows erows top }
-{
-    Sizes::new(
-        keys as usize,
-        workers as usize,
-        vrows as usize,
-        erows as usize,
-        top,
-    )
 }
 
 // Opens anew; a refusal leaves the run that was open.
-fn reopen<M: CellMemory>(run: &mut Run<M>, sizes: Sizes) -> Reply
-    ensures reply { result ≡ open_reply (Serving (state_of M.cells run.old)) (Ok sizes) }
-    ensures run { Serving (state_of M.cells run.new) ≡ open_session (Serving (state_of M.cells run.old)) (Ok sizes) }
+fn reopen<M: CellMemory>(run: &mut Run<M>, opening: Opening) -> Code
+    ensures { Opens opening (Serving (state_of M.cells run.old)) (Reply.ToOpen result) (Serving (state_of M.cells run.new)) }
 {
-    match run.reopen(sizes) {
-        Ok(()) => Reply::ToOpen(Code::Done),
-        Err(refusal) => Reply::ToOpen(Code::Refused(refusal)),
-    }
+    run.reopen(opening.try_into()?)?;
+    Ok(None)
 }
 
-// Opens; a refusal leaves the memory as it was.
-fn open<M: CellMemory>(memory: M, sizes: Sizes) -> Answered<M>
-    ensures reply { result.reply ≡ open_reply (Waiting (M.cells memory)) (Ok sizes) }
-    ensures desk { session_of M.cells result.desk ≡ open_session (Waiting (M.cells memory)) (Ok sizes) }
+// Opens; a refusal gives the memory back as it was.
+fn open<M: CellMemory>(memory: M, opening: Opening) -> Answered<M>
+    ensures { Opens opening (Waiting (M.cells memory)) result.reply (session_of M.cells result.desk) }
 {
-    match Run::open(memory, sizes) {
+    let opened = match Sizes::try_from(opening) {
+        Ok(sizes) => Run::open(memory, sizes),
+        Err(refusal) => Err((memory, refusal)),
+    };
+    match opened {
         Ok(run) => Answered {
             desk: Desk::Open(run),
-            reply: Reply::ToOpen(Code::Done),
+            reply: Reply::ToOpen(Ok(None)),
         },
         Err((memory, refusal)) => Answered {
             desk: Desk::Closed(memory),
-            reply: Reply::ToOpen(Code::Refused(refusal)),
+            reply: Reply::ToOpen(Err(refusal)),
         },
     }
 }
@@ -96,38 +71,8 @@ pub fn answer_open<M: CellMemory>(run: &mut Run<M>, line: &[u8]) -> Reply
 {
     match frames::parse(line) {
         Some(Frame::Turns { worker, count }) => turns(run, worker, count),
-        Some(
-            Frame::Begin {
-                worker,
-                call,
-                from,
-                to,
-                weight,
-            },
-        ) => begin(
-            run,
-            Begin {
-                worker,
-                call,
-                from,
-                to,
-                weight,
-            },
-        ),
-        Some(
-            Frame::Open {
-                keys,
-                workers,
-                vrows,
-                erows,
-                top,
-            },
-        ) => {
-            match sizes_of(keys, workers, vrows, erows, top) {
-                Ok(sizes) => reopen(run, sizes),
-                Err(refusal) => Reply::ToOpen(Code::Refused(refusal)),
-            }
-        }
+        Some(Frame::Begin(frame)) => begin(run, frame),
+        Some(Frame::Open(opening)) => Reply::ToOpen(reopen(run, opening)),
         Some(Frame::Take { .. }) | None => Reply::NoFrame,
     }
 }
@@ -137,23 +82,7 @@ pub fn answer_closed<M: CellMemory>(memory: M, line: &[u8]) -> Answered<M>
     ensures { Replies (Waiting (M.cells memory)) (frame_in (bytes_of line.now)) result.reply (session_of M.cells result.desk) }
 {
     match frames::parse(line) {
-        Some(
-            Frame::Open {
-                keys,
-                workers,
-                vrows,
-                erows,
-                top,
-            },
-        ) => {
-            match sizes_of(keys, workers, vrows, erows, top) {
-                Ok(sizes) => open(memory, sizes),
-                Err(refusal) => Answered {
-                    desk: Desk::Closed(memory),
-                    reply: Reply::ToOpen(Code::Refused(refusal)),
-                },
-            }
-        }
+        Some(Frame::Open(opening)) => open(memory, opening),
         _ => Answered {
             desk: Desk::Closed(memory),
             reply: Reply::NoFrame,

@@ -8,17 +8,13 @@ use cells::CellMemory;
 use frames::write_reply;
 use std::io::{BufRead, BufReader, Write};
 
-const LINE_FEED: u8 = 10;
+pub const LINE_FEED: u8 = 10;
 
 // A line without its line feed. The last line may have none.
 pub fn body(line: &[u8]) -> &[u8]
     ensures { result.now ≡ body_of line.now }
 {
-    match line.len() {
-        0 => line,
-        n if line[n - 1] == LINE_FEED => &line[0..n - 1],
-        _ => line,
-    }
+    line.strip_suffix(&[LINE_FEED]).unwrap_or(line)
 }
 
 // Reads lines to the end of the input and replies to each.

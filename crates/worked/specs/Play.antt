@@ -28,8 +28,8 @@ play_turns s None o = record { state = o.state; reply = turns_reply (Ok o.severa
 
 abbrev pub play_frame : State → Option Frame → Played
 play_frame s None = record { state = s; reply = NoFrame }
-play_frame s (Some (frame.Open n w a b t)) = record { state = s; reply = NoFrame }
-play_frame s (Some (frame.Begin w c i j x)) = play_begin s (record { worker = w; call = c; from = i; to = j; weight = x })
+play_frame s (Some (frame.Open o)) = record { state = s; reply = NoFrame }
+play_frame s (Some (frame.Begin b)) = play_begin s b
 play_frame s (Some (frame.Turns w n)) = play_turns s (turn_refused s w) (given s w 0 n)
 play_frame s (Some (frame.Take w)) = record { state = s; reply = NoFrame }
 

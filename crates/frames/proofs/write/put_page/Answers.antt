@@ -1,12 +1,12 @@
-use Rattle.std.proofs.Common.{[], ◌∷◌, rules}
-use Rattle.frames.specs.Replies.{key_bytes, weight_bytes}
-use Rattle.frames.proofs.Appending.{take_front_through, begun_err, three_begun}
+use Rattle.std.proofs.Common.{◌≡◌, [], ◌∷◌}
+use Rattle.std.specs.List.{flat_map}
+use Rattle.std.proofs.lemmas.List.Concat.{flat_map_single}
+use Rattle.frames.specs.Replies.{key_byte, key_bytes, weight_bytes}
+use Rattle.frames.proofs.Appending.{flat_weights, three_begun}
 use Rattle.frames.proofs.write.put_page.Goals as goal
-
-pub returns-in_err-put_keys : goal.returns-in_err-put_keys
-returns-in_err-put_keys c = search (rules, begun_err, take_front_through)
 
 pub returns : goal.returns
 returns c =
-    three_begun (0x84 ∷ (0x00 ∷ [])) (key_bytes c.args.keys.now) (weight_bytes c.args.weights.now) c.put_weights.result _ _ _ _
-    c.in_ok-put_all.ensures c.in_ok-put_keys.ensures c.put_weights.ensures
+    let k : flat_map (λ key. key_byte key ∷ []) c.args.keys.now ≡ key_bytes c.args.keys.now = flat_map_single key_byte c.args.keys.now in
+    let w : flat_map (λ weight. weight_bytes (weight ∷ [])) c.args.weights.now ≡ weight_bytes c.args.weights.now = flat_weights c.args.weights.now in
+    rw (← k, ← w) (three_begun (0x84 ∷ (0x00 ∷ [])) _ _ c.put_all-3.result _ _ _ _ c.in_ok-put_all.ensures c.in_ok-put_all-2.ensures c.put_all-3.ensures)

@@ -1,36 +1,33 @@
-use Rattle.std.proofs.Common.{length, ap, subst, arith}
-use Rattle.session.specs.Desks.{Session.Shut, session_of}
-use Rattle.session.specs.declared.desk.Desk.{Desk}
-use Rattle.replay.proofs.Feeding.{behind_shorter}
-use Rattle.replay.proofs.Replaying.{Through, through_more, through_all, through_full, through_onward, from_start}
+use Rattle.std.proofs.Common.{refl, rules, arith}
+use borrow.Author.Tests.{tests}
+use Rattle.session.specs.Desks.{session_of}
+use Rattle.replay.specs.Replayed.{Replayed.nothing_yet}
+use Rattle.replay.proofs.Replaying.{through_more, through_all, through_full}
+use Rattle.replay.proofs.schedule.replay.Goals.{in-Open, in_default}
 use Rattle.replay.proofs.schedule.replay.Goals as goal
 
-pub loop-rest-smaller : goal.loop-rest-smaller
-loop-rest-smaller g c = omega (arith, ap length c.split.ensures.rest, behind_shorter c.loop-rest.rest.now (omega arith))
+pub loop-rest-init : goal.loop-rest-init
+loop-rest-init g c = record { within = omega arith; replayed = nothing_yet; behind = refl }
 
-pub returns-in-Open : goal.returns-in-Open
-returns-in-Open g c =
-    let P : Desk g.row.M.Denot → Type 0 = λ x. Through (Shut (g.M.CellMemory.cells c.args.memory)) c.args.text.now c.args.out.now 0 (session_of g.M.CellMemory.cells x) c.loop-rest.rest.now c.loop-rest.out c.loop-rest.n in
-    from_start _ c.args.text.now c.args.out.now c.replay_open.new.out c.replay_open.result
-    (through_onward _ _ c.args.text.now c.args.out.now c.loop-rest.rest.now c.loop-rest.out c.replay_open.new.out 0 c.loop-rest.n c.replay_open.result
-    (subst P c.in-Open.is c.loop-rest.invariant) c.replay_open.ensures)
-
-pub returns-in_default : goal.returns-in_default
-returns-in_default g c =
-    let P : Desk g.row.M.Denot → Type 0 = λ x. Through (Shut (g.M.CellMemory.cells c.args.memory)) c.args.text.now c.args.out.now 0 (session_of g.M.CellMemory.cells x) c.loop-rest.rest.now c.loop-rest.out c.loop-rest.n in
-    from_start _ c.args.text.now c.args.out.now c.put.new.out c.loop-rest.n
-    (through_full _ _ _ c.args.text.now c.args.out.now c.loop-rest.rest.now c.loop-rest.out c.put.new.out c.split.result.0.now
-    0 c.loop-rest.n c.answer_closed-answered.result.reply
-    (subst P c.in-Closed.is c.loop-rest.invariant) c.loop-rest-test.true c.split.ensures.line c.answer_closed-answered.ensures c.in_default.ensures)
+pub returns-in_default-put : goal.returns-in_default-put
+returns-in_default-put g c =
+    through_full _ (session_of g.M.CellMemory.cells c.loop-rest.desk) (session_of g.M.CellMemory.cells c.match-desk.desk) _ _ c.loop-rest.rest.now c.loop-rest.out _ c.split.result.0.now _ c.match-desk.reply
+    c.loop-rest.invariant (search (rules, tests)) c.split.ensures.line
+    (elim c.match-desk.branch [
+      | in-Open w ↦ rw (w.desk-is, w.reply-is, w.in-Open.is) w.answer_open-reply.ensures
+      | in_default w ↦ rw (w.desk-is, w.reply-is) w.answer-answered.ensures
+    ])
+    c.in_default-put.ensures
 
 pub loop-rest-preserved : goal.loop-rest-preserved
 loop-rest-preserved g c =
-    let P : Desk g.row.M.Denot → Type 0 = λ x. Through (Shut (g.M.CellMemory.cells c.args.memory)) c.args.text.now c.args.out.now 0 (session_of g.M.CellMemory.cells x) c.loop-rest.rest.now c.loop-rest.out c.loop-rest.n in
-    through_more _ _ _ c.args.text.now c.args.out.now c.loop-rest.rest.now c.loop-rest.out c.put.new.out c.split.result.0.now c.split.result.1.now
-    0 c.loop-rest.n c.in-Some.end c.answer_closed-answered.result.reply
-    (subst P c.in-Closed.is c.loop-rest.invariant) c.loop-rest-test.true c.split.ensures.line c.split.ensures.rest c.answer_closed-answered.ensures c.in-Some.ensures
+    through_more _ (session_of g.M.CellMemory.cells c.loop-rest.desk) (session_of g.M.CellMemory.cells c.match-desk.desk) _ _ c.loop-rest.rest.now c.loop-rest.out _ c.split.result.0.now _ _ _ c.match-desk.reply
+    c.loop-rest.invariant (search (rules, tests)) c.split.ensures.line c.split.ensures.rest
+    (elim c.match-desk.branch [
+      | in-Open w ↦ rw (w.desk-is, w.reply-is, w.in-Open.is) w.answer_open-reply.ensures
+      | in_default w ↦ rw (w.desk-is, w.reply-is) w.answer-answered.ensures
+    ])
+    c.in-Some.ensures
 
 pub returns : goal.returns
-returns g c =
-    from_start _ c.args.text.now c.args.out.now c.loop-rest.out c.loop-rest.n
-    (through_all _ _ _ _ c.loop-rest.rest.now c.loop-rest.out 0 c.loop-rest.n c.loop-rest.invariant (omega arith))
+returns g c = through_all _ _ _ _ c.loop-rest.rest.now _ _ c.loop-rest.invariant (search (rules, tests))
