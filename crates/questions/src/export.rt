@@ -24,14 +24,14 @@ pub fn questions_order(
 {
     let page = Page::new(cells, keys);
     if page.len() == 0 {
-        return Refusal::SizeOutside.code();
+        return Refusal::SizeOutside.into();
     }
     match order(&page, start, out) {
         Ok(listed) => {
             *count = listed;
             0
         }
-        Err(why) => why.code(),
+        Err(why) => why.into(),
     }
 }
 
@@ -41,11 +41,11 @@ fn best_of<M: Measure>(cells: &[u32], keys: usize, start: usize, out: &mut [Entr
 {
     let page = Page::new(cells, keys);
     if page.len() == 0 {
-        return Refusal::SizeOutside.code();
+        return Refusal::SizeOutside.into();
     }
     match best::<Page<'_>, M>(&page, start, out) {
         Ok(()) => 0,
-        Err(why) => why.code(),
+        Err(why) => why.into(),
     }
 }
 
