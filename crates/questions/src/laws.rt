@@ -7,18 +7,15 @@ use crate::measure::Measure;
 // There is one entry that a key can have, so an answer over walks is one answer.
 pub fn entries_fixed<M: Measure>()
     ensures { EntryFixed M.scale }
-{
-}
+{}
 
 // There is one breadth-first list, and along it the distances in edges never fall.
 pub fn order_stands()
     ensures fixed { OrderFixed }
     ensures distances { DistancesNeverFall }
-{
-}
+{}
 
 // The worked case holds of the definitions.
 pub fn cases_stand()
     ensures { Cases }
-{
-}
+{}
