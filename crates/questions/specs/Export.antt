@@ -1,5 +1,5 @@
 -- What the questions over the cells of a page answer, and the byte that a C program gets.
-use Rattle.std.specs.Prelude.{◌≡◌, ℕ, cond, List, Some, None, Option, Result, ◌≢◌}
+use Rattle.std.specs.Prelude.{◌≡◌, ℕ, cond, List, Some, None, Option, Ok, Err, Result, ◌≢◌}
 use Rattle.codes.specs.declared.refusal.Refusal.TheVariants.{SizeOutside}
 use Rattle.questions.specs.declared.entry.Entry.{Entry}
 use Rattle.questions.specs.declared.unanswered.Unanswered.{Unanswered}
@@ -26,6 +26,10 @@ byte_of (Some u) = unanswered_code u
 
 abbrev pub answer_byte : List ℕ → ℕ → ℕ → ℕ → ℕ
 answer_byte cells n start area = byte_of (unanswered_on cells n start area)
+
+abbrev pub result_byte : Result (Unit {0}) Unanswered → ℕ
+result_byte (Ok u) = 0
+result_byte (Err e) = unanswered_code e
 
 -- the area and the count, where the byte is 0 and where it is not
 pub record OrderedAt (r : ℕ) (cells : List ℕ) (n s : ℕ) (old new : List ℕ) (before after : ℕ) : Type 0 where
