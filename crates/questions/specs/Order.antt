@@ -27,9 +27,9 @@ pub record BreadthFirst (g : Graph) (s : ℕ) (xs : ℕ → ℕ) (c : ℕ) : Typ
   pub ordered : (p q : ℕ) → 0 < p → p < q → q < c → (from p < from q) ⊎ ((from p ≡ from q) × (xs p < xs q))
 
 -- of c listed keys h were served; the next one, if one is left, is served then
-abbrev pub Served : List ℕ → ℕ → ℕ → ℕ → Option ℕ → Type 0
-Served xs c h h' None = (c ≤ h) × (h' ≡ h)
-Served xs c h h' (Some k) = (h < c) × (h' ≡ h + 1) × (k ≡ key xs h)
+abbrev pub Next : List ℕ → ℕ → ℕ → ℕ → Option ℕ → Type 0
+Next xs c h h' None = (c ≤ h) × (h' ≡ h)
+Next xs c h h' (Some k) = (h < c) × (h' ≡ h + 1) × (k ≡ key xs h)
 
 -- the area holds the list, and past it what it held before
 pub record Ordered (g : Graph) (s c : ℕ) (old new : List ℕ) : Type 0 where

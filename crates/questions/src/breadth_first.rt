@@ -2,7 +2,7 @@
 ghost use Rattle.std.specs.Prelude.{◌≡◌, ℕ, ◌+◌, ◌<◌, ◌≤◌, false, length, slice_set};
 ghost use Rattle.questions.specs.Search.{flag};
 ghost use Rattle.questions.specs.Unanswered.{unanswered, Refuses};
-ghost use Rattle.questions.specs.Order.{Ordered, OrderedOr, Served};
+ghost use Rattle.questions.specs.Order.{Ordered, OrderedOr, Next};
 
 use crate::unanswered::{Unanswered, asked};
 use crate::view::GraphView;
@@ -47,7 +47,7 @@ impl<'a> Listing<'a> {
         ensures same_reference { self.new.out.ghost_name ≡ self.old.out.ghost_name }
         ensures area { self.new.out.now ≡ self.old.out.now }
         ensures count { self.new.count ≡ self.old.count }
-        ensures served { Served self.old.out.now self.old.count self.old.served self.new.served result }
+        ensures served { Next self.old.out.now self.old.count self.old.served self.new.served result }
     {
         if self.served >= self.count {
             return None;
