@@ -1,10 +1,11 @@
 -- What a write to one label changes.
-use Rattle.std.proofs.Common.{◌≡◌, ℕ, ◌<◌, ◌≤◌, true, false, List, None, length, take, set, get_or, replicate, ap, ◌∙◌, inl, inr, arith}
-use Rattle.std.proofs.lemmas.List.{get_or-set_same, get_or-set_other, get_or-replicate, get_or_past, get_or-take, length-take, length-replicate}
-use Rattle.std.proofs.lemmas.Bool.{cases_eq, cases_lt}
+use Rattle.std.proofs.Common.{◌≡◌, ℕ, ◌<◌, ◌≤◌, true, false, List, None, length, take, set, replicate, ap, inl, inr, arith}
+use Rattle.std.proofs.lemmas.List.{get_or-set_same, get_or-set_other, length-take, length-replicate}
+use Rattle.std.proofs.lemmas.Bool.{cases_eq}
 use Rattle.std.proofs.lemmas.Bool.Decides.{nat_tests}
 use Rattle.questions.specs.declared.best_first.Label.{Label}
 use Rattle.questions.specs.Search.{value_at, listed_at}
+use Rattle.questions.proofs.Copies.{part_of_copies}
 use Rattle.questions.proofs.Counting.{Lists}
 
 abbrev blank : Label
@@ -44,18 +45,9 @@ module _ (xs : List Label) (k : ℕ) (y : Label) where
     | inr z ↦ (let s = listed_other j z in grind (arith, nat_tests))
   ]
 
-part_blank : (i n k : ℕ) → get_or (take i (replicate n blank)) k blank ≡ blank
-part_blank i n k = elim (cases_lt k i) [
-  | inl l ↦ get_or-take i (replicate n blank) k blank l ∙ (elim (cases_lt k n) [
-    | inl a ↦ get_or-replicate n k blank blank a
-    | inr a ↦ get_or_past (replicate n blank) k blank (omega (arith, length-replicate n blank))
-  ])
-  | inr l ↦ get_or_past (take i (replicate n blank)) k blank (omega (arith, length-take i (replicate n blank)))
-]
-
 -- labels that are all blank
 pub blank_part : (i n k : ℕ) → (value_at (take i (replicate n blank)) k ≡ None) × (listed_at (take i (replicate n blank)) k ≡ false)
-blank_part i n k = let e = part_blank i n k in (ap (λ (x : Label). x.value) e, ap (λ (x : Label). x.listed) e)
+blank_part i n k = let e = part_of_copies i n k blank in (ap (λ (x : Label). x.value) e, ap (λ (x : Label). x.listed) e)
 
 pub length_part : (i n : ℕ) → i ≤ n → length (take i (replicate n blank)) ≡ i
 length_part i n h = omega (arith, length-take i (replicate n blank), length-replicate n blank)

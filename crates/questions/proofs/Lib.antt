@@ -1,3 +1,4 @@
+mod Copies
 mod Counting
 mod Labels
 mod Writing

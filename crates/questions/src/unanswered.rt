@@ -18,7 +18,7 @@ impl From<Refusal> for Unanswered {
     ghost from_gives = { λ refusal made. made ≡ Refused refusal };
 
     fn from(refusal: Refusal) -> Unanswered {
-        Unanswered::Refused(refusal)
+        Self::Refused(refusal)
     }
 }
 
