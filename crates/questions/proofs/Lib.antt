@@ -6,8 +6,6 @@ mod Spreading
 mod Listing
 mod Searching
 mod Fixed
-mod Asking
 mod Distances
 mod OneOrder
 pub mod Worked
-mod Pairs
