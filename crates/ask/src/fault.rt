@@ -3,7 +3,7 @@ use questions::NOTHING;
 use std::alloc::{AllocError, AllocFailed};
 use std::fmt;
 
-#[derive(Clone, Copy)]
+#[derive(Clone, Copy, PartialEq, Eq, Debug)]
 pub enum Fault {
     Memory,
     Size,

@@ -9,16 +9,14 @@ mod table;
 use crate::answers::print_answers;
 use crate::sheet::Sheet;
 use crate::table::print_page;
-use anyhow::anyhow;
+use anyhow::{Context, anyhow};
 use questions::Page;
 
 fn read_sheet(rt: &HostRuntime) -> anyhow::Result<Sheet> {
     let heap = rt.alloc();
     let mut sheet = Sheet::new(heap);
-    let mut number = 0u64;
-    for line in rt.lines(heap) {
+    for (number, line) in (1u64..).zip(rt.lines(heap)) {
         let line = line?;
-        number = number.saturating_add(1);
         if let Err(fault) = sheet.read(heap, line.as_str()) {
             return Err(anyhow!(format!(in heap; "line {number}: {fault}")?));
         }
@@ -28,9 +26,7 @@ fn read_sheet(rt: &HostRuntime) -> anyhow::Result<Sheet> {
 
 fn run(rt: &HostRuntime) -> anyhow::Result<()> {
     let sheet = read_sheet(rt)?;
-    let Some(start) = sheet.start else {
-        return Err(anyhow!("the input has no start"));
-    };
+    let start = sheet.start.context("the input has no start")?;
     let page = Page::new(&sheet.cells, sheet.keys);
     print_page(rt, &page)?;
     print_answers(rt, &page, start)

@@ -17,7 +17,7 @@ pub struct Sheet {
 fn key_at(keys: usize, k: usize) -> Option<usize>
     ensures { result ≡ key_at keys k }
 {
-    if k < keys { Some(k) } else { None }
+    (k < keys).then_some(k)
 }
 
 // Where the cell of the edge from `i` to `j` stands.
@@ -32,17 +32,12 @@ fn pair_at(keys: usize, i: usize, j: usize) -> Option<usize>
 }
 
 fn key_of(word: &str) -> Result<usize, Fault> {
-    match word.parse::<usize>() {
-        Ok(k) => Ok(k),
-        Err(_) => Err(Fault::Key),
-    }
+    word.parse::<usize>().map_err(|_| Fault::Key)
 }
 
 fn weight_of(word: &str) -> Result<u32, Fault> {
-    match word.parse::<u32>() {
-        Ok(w) if w != NOTHING => Ok(w),
-        _ => Err(Fault::Weight),
-    }
+    let weight = word.parse::<u32>().ok();
+    weight.filter(|w| *w != NOTHING).ok_or(Fault::Weight)
 }
 
 impl Sheet {
@@ -96,16 +91,10 @@ impl Sheet {
 
     // Makes a page of so many keys, with none shown and no edge.
     fn resize(&mut self, heap: Global, line: &str) -> Result<(), Fault> {
-        let Ok(keys) = line.trim().parse::<usize>() else {
-            return Err(Fault::Size);
-        };
-        if keys < 1 || keys > 64 {
-            return Err(Fault::Size);
-        }
+        let keys = line.trim().parse::<usize>().ok();
+        let keys = keys.filter(|n| (1..=64).contains(n)).ok_or(Fault::Size)?;
         let mut cells = vec![in heap; 0; keys]?;
-        for _ in 0..keys * keys {
-            cells.push(NOTHING)?;
-        }
+        cells.resize(keys + keys * keys, NOTHING)?;
         self.keys = keys;
         self.cells = cells;
         Ok(())
@@ -115,15 +104,9 @@ impl Sheet {
     fn set(&mut self, at: Option<usize>, value: u32) -> Result<(), Fault>
         ensures { self.new.cells.items ≡ written self.old.cells.items at value }
     {
-        let Some(at) = at else {
-            return Err(Fault::Key);
-        };
-        match self.cells.get_mut(at) {
-            Some(cell) => {
-                *cell = value;
-                Ok(())
-            }
-            None => Err(Fault::Key),
-        }
+        let at = at.ok_or(Fault::Key)?;
+        let cell = self.cells.get_mut(at).ok_or(Fault::Key)?;
+        *cell = value;
+        Ok(())
     }
 }

@@ -23,11 +23,9 @@ fn width<G: GraphView>(heap: Global, page: &G) -> Result<usize, AllocError> {
 }
 
 fn print_row<G: GraphView>(rt: &HostRuntime, page: &G, i: usize, width: usize) -> io::Result<()> {
-    for j in 0..page.len() {
-        if page.shows(j) {
-            let cell = text(rt.alloc(), page.weight(i, j))?;
-            print!(rt; "  {cell:>width$}")?;
-        }
+    for j in (0..page.len()).filter(|k| page.shows(*k)) {
+        let cell = text(rt.alloc(), page.weight(i, j))?;
+        print!(rt; "  {cell:>width$}")?;
     }
     println!(rt; "")
 }
@@ -39,17 +37,13 @@ pub fn print_page<G: GraphView>(rt: &HostRuntime, page: &G) -> io::Result<()> {
         "A page of {n} keys; a row for each key that it shows, with the weights of its edges."
     )?;
     print!(rt; "    ")?;
-    for j in 0..n {
-        if page.shows(j) {
-            print!(rt; "  {j:>width$}")?;
-        }
+    for j in (0..n).filter(|k| page.shows(*k)) {
+        print!(rt; "  {j:>width$}")?;
     }
     println!(rt; "")?;
-    for i in 0..n {
-        if page.shows(i) {
-            print!(rt; "  {i:>2}")?;
-            print_row(rt, page, i, width)?;
-        }
+    for i in (0..n).filter(|k| page.shows(*k)) {
+        print!(rt; "  {i:>2}")?;
+        print_row(rt, page, i, width)?;
     }
     println!(rt; "")
 }

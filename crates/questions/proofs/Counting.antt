@@ -1,8 +1,8 @@
 -- How many keys are not listed.
-use Rattle.std.proofs.Common.{◌≡◌, ℕ, zero, suc, ◌+◌, ◌<◌, Bool, true, false, cond, eqb, List, length, take, set, replicate, ◌∙◌, inl, inr, arith}
-use Rattle.std.proofs.lemmas.List.{get_or-set_same, get_or-set_other, get_or-replicate, get_or_past, get_or-take, length-take, length-replicate}
+use Rattle.std.proofs.Common.{◌≡◌, ℕ, zero, suc, ◌+◌, ◌<◌, Bool, true, false, cond, eqb, List, length, set, inl, inr, arith}
+use Rattle.std.proofs.lemmas.List.{get_or-set_same, get_or-set_other}
 use Rattle.questions.specs.Search.{flag}
-use Rattle.std.proofs.lemmas.Bool.{cases_eq, cases_lt}
+use Rattle.std.proofs.lemmas.Bool.{cases_eq}
 use Rattle.std.proofs.lemmas.Bool.Decides.{nat_tests}
 
 unfoldable pub unlisted : (ℕ → Bool) → ℕ → ℕ
@@ -36,19 +36,7 @@ lists_set bs k l j = elim (cases_eq j k) [
   | inr e ↦ (let s = get_or-set_other bs k j true false e in grind (arith, nat_tests))
 ]
 
-pub none_listed : (n k : ℕ) → flag (replicate n false) k ≡ false
-none_listed n k = elim (cases_lt k n) [
-  | inl l ↦ get_or-replicate n k false false l
-  | inr l ↦ get_or_past (replicate n false) k false (omega (arith, length-replicate n false))
-]
-
 pub all_unlisted : (L : ℕ → Bool) → ((k : ℕ) → L k ≡ false) → (n : ℕ) → unlisted L n ≡ n
 unfolding unlisted
 all_unlisted L none zero = omega arith
 all_unlisted L none (suc n) = let e = all_unlisted L none n in let f = none n in grind (arith, nat_tests)
-
-pub none_listed_part : (i n k : ℕ) → flag (take i (replicate n false)) k ≡ false
-none_listed_part i n k = elim (cases_lt k i) [
-  | inl l ↦ get_or-take i (replicate n false) k false l ∙ none_listed n k
-  | inr l ↦ get_or_past (take i (replicate n false)) k false (omega (arith, length-take i (replicate n false)))
-]

@@ -1,12 +1,11 @@
+mod Copies
 mod Counting
+mod Labels
+mod Writing
 mod Spreading
 mod Listing
 mod Searching
 mod Fixed
-mod Asking
-mod Areas
 mod Distances
 mod OneOrder
 pub mod Worked
-mod Bytes
-mod Pairs

@@ -1,11 +1,11 @@
--- The search keeps: entries hold the best values over walks that leave only listed keys.
+-- The search keeps: values are the best over walks that leave only listed keys.
 use Rattle.std.proofs.Common.{◌≡◌, ℕ, ◌<◌, Bool, true, false, ◌⊎◌, Some, None, Option, sym, refl, ap, ◌∙◌, subst, inl, inr, arith}
 use Rattle.std.proofs.lemmas.Bool.{cases_Bool, cases_eq}
 use Rattle.std.proofs.lemmas.Bool.Decides.{nat_tests}
-use Rattle.questions.specs.declared.entry.Entry.{Entry}
+use Rattle.std.proofs.lemmas.Option.{none-some, same_Some}
 use Rattle.questions.specs.Graph.{Graph, Inside, Walk, here, on}
 use Rattle.questions.specs.Measures.{Scale, NoBetter, Lawful}
-use Rattle.questions.specs.Search.{blank, reached, Open, Picked, offered, Relaxed}
+use Rattle.questions.specs.Search.{Open, Picked, offered, Relaxed}
 use Rattle.questions.specs.Best.{along, Entered}
 use Rattle.questions.proofs.Counting.{Lists}
 
@@ -14,38 +14,37 @@ abbrev pub Within : (L : ℕ → Bool) {g : Graph} {s k : ℕ} → Walk g s k �
 Within L here = Unit {0}
 Within L (on {k} w p e) = (L k ≡ true) × Within L p
 
--- an entry is blank, or has the value of a walk that leaves only listed keys
-abbrev pub Sound : Scale → Graph → ℕ → (ℕ → Bool) → ℕ → Entry → Type 0
-Sound m g s L k x = (x ≡ blank) ⊎ ((x.mark ≡ 1) × (p : Walk g s k) × Within L p × (along m p ≡ x.value))
-
-pub record Searched (m : Scale) (g : Graph) (n s : ℕ) (L : ℕ → Bool) (d : ℕ → Entry) : Type 0 where
-  pub sound : (k : ℕ) → k < n → Sound m g s L k (d k)
-  pub start : (s < n) × ((d s).mark ≡ 1) × NoBetter m m.first (d s).value
-  pub listed : (k : ℕ) → L k ≡ true → (k < n) × ((d k).mark ≡ 1)
+pub record Searched (m : Scale) (g : Graph) (n s : ℕ) (L : ℕ → Bool) (d : ℕ → Option ℕ) : Type 0 where
+  -- a value is that of a walk that leaves only listed keys
+  pub sound : (k v : ℕ) → k < n → d k ≡ Some v → (p : Walk g s k) × Within L p × (along m p ≡ v)
+  pub start : (s < n) × (v : ℕ) × (d s ≡ Some v) × NoBetter m m.first v
+  pub listed : (k : ℕ) → L k ≡ true → (k < n) × (v : ℕ) × (d k ≡ Some v)
   -- the edges of a listed key were offered
-  pub closed : (i j w : ℕ) → L i ≡ true → g.edge i j ≡ Some w → ((d j).mark ≡ 1) × NoBetter m (m.extend (d i).value w) (d j).value
+  pub closed : (i j w v : ℕ) → L i ≡ true → d i ≡ Some v → g.edge i j ≡ Some w → (u : ℕ) × (d j ≡ Some u) × NoBetter m (m.extend v w) u
   -- no open key is better than a listed one
-  pub ordered : (i j : ℕ) → L i ≡ true → j < n → Open L d j → NoBetter m (d j).value (d i).value
+  pub ordered : (i j u v : ℕ) → L i ≡ true → d i ≡ Some u → j < n → Open L d j v → NoBetter m v u
 
 -- what an offer over an edge does
-data Offer (m : Scale) (v : ℕ) (x : Entry) (o : Option ℕ) (y : Entry) : Type 0 where
+data Offer (m : Scale) (v : ℕ) (x o y : Option ℕ) : Type 0 where
   no_edge : o ≡ None → y ≡ x → Offer m v x o y
-  kept : (w : ℕ) → o ≡ Some w → y ≡ x → (x.mark ≡ 0 → ⊥) → NoBetter m (m.extend v w) x.value → Offer m v x o y
-  taken : (w : ℕ) → o ≡ Some w → y ≡ reached (m.extend v w) → (x.mark ≡ 0) ⊎ (m.better (m.extend v w) x.value ≡ true) → Offer m v x o y
+  kept : (w u : ℕ) → o ≡ Some w → x ≡ Some u → y ≡ x → NoBetter m (m.extend v w) u → Offer m v x o y
+  taken : (w : ℕ) → o ≡ Some w → y ≡ Some (m.extend v w) → ((u : ℕ) → x ≡ Some u → m.better (m.extend v w) u ≡ true) → Offer m v x o y
 
-offer : (m : Scale) (v : ℕ) (x : Entry) (o : Option ℕ) (y : Entry) → y ≡ offered m v x o → Offer m v x o y
+offer : (m : Scale) (v : ℕ) (x o y : Option ℕ) → y ≡ offered m v x o → Offer m v x o y
 offer m v x None y e = no_edge refl e
-offer m v x (Some w) y e = elim (cases_Bool (m.better (m.extend v w) x.value)) [
-  | inl b ↦ taken w refl (grind (arith, nat_tests)) (inr b)
-  | inr b ↦ elim (cases_eq x.mark 0) [
-    | inl z ↦ taken w refl (grind (arith, nat_tests)) (inl z)
-    | inr z ↦ kept w refl (grind (arith, nat_tests)) z b
-  ]
+offer m v None (Some w) y e = taken w refl e (λ u z. absurd (none-some u z))
+offer m v (Some u) (Some w) y e = elim (cases_Bool (m.better (m.extend v w) u)) [
+  | inl b ↦ taken w refl (grind arith) (λ x z. (let s = same_Some u x z in cc))
+  | inr b ↦ kept w u refl refl (grind arith) b
 ]
 
 within_more : (L K : ℕ → Bool) → ((j : ℕ) → L j ≡ true → K j ≡ true) → {g : Graph} {s k : ℕ} (p : Walk g s k) → Within L p → Within K p
 within_more L K h here i = tt
 within_more L K h (on {k} w p e) i = (h k i.0, within_more L K h p i.1)
+
+-- values that are the same are offered the same
+pub relaxed_from : (m : Scale) (g : Graph) (v k : ℕ) {n r : ℕ} {d c f : ℕ → Option ℕ} → r ≡ n → ((j : ℕ) → c j ≡ d j) → Relaxed m g v k r c f → Relaxed m g v k n d f
+relaxed_from m g v k same stay relaxed j = let e = relaxed j in let s = stay j in cc
 
 module _ {m : Scale} (law : Lawful m) where
   itself : (v : ℕ) → NoBetter m v v
@@ -55,33 +54,40 @@ module _ {m : Scale} (law : Lawful m) where
   other_way u v b = elim (law.total u v) [ inl h ↦ absurd (grind arith) | inr h ↦ h ]
 
 module _ {m : Scale} (law : Lawful m) (g : Graph) {n : ℕ} (inside : Inside g n) {s : ℕ} where
-  -- every walk that leaves only listed keys ends at a reached key, and is no better than its entry
-  pub covered : {L : ℕ → Bool} {d : ℕ → Entry} → Searched m g n s L d → {k : ℕ} (p : Walk g s k) → Within L p → ((d k).mark ≡ 1) × NoBetter m (along m p) (d k).value
-  covered q here i = (q.start.1, q.start.2)
+  -- every walk that leaves only listed keys ends at a key with a value, and is no better than that
+  pub covered : {L : ℕ → Bool} {d : ℕ → Option ℕ} → Searched m g n s L d → {k : ℕ} (p : Walk g s k) → Within L p → (v : ℕ) × (d k ≡ Some v) × NoBetter m (along m p) v
+  covered q here i = (q.start.1, q.start.2, q.start.3)
   covered {L} {d} q (on {k} {j} w p e) i =
-      let c = covered q p i.1 in
-      let r = q.closed k j w i.0 e in
-      (r.0, law.transitive _ _ _ (law.keeps _ _ w c.1) r.1)
+      let (v, at, b) = covered q p i.1 in
+      let (u, there, c) = q.closed k j w v i.0 at e in
+      (u, there, law.transitive _ _ _ (law.keeps _ _ w b) c)
 
   -- once no key is open, every walk leaves only listed keys
-  pub all_within : {L : ℕ → Bool} {d : ℕ → Entry} → Searched m g n s L d → ((k : ℕ) → k < n → Open L d k → ⊥) → {k : ℕ} (p : Walk g s k) → Within L p
+  pub all_within : {L : ℕ → Bool} {d : ℕ → Option ℕ} → Searched m g n s L d → ((k v : ℕ) → k < n → Open L d k v → ⊥) → {k : ℕ} (p : Walk g s k) → Within L p
   all_within q done here = tt
   all_within {L} {d} q done (on {k} {j} w p e) =
       let i = all_within q done p in
-      let c = covered q p i in
-      (elim (cases_Bool (L k)) [ inl h ↦ h | inr h ↦ absurd (done k (inside k j w e).0 (c.0, h)) ], i)
+      let (v, at, b) = covered q p i in
+      (elim (cases_Bool (L k)) [ inl h ↦ h | inr h ↦ absurd (done k v (inside k j w e).0 (at, h)) ], i)
 
-  -- and so the entries are the answer
-  pub finished : {L : ℕ → Bool} {d : ℕ → Entry} → Searched m g n s L d → ((k : ℕ) → k < n → Open L d k → ⊥) → (k : ℕ) → k < n → Entered m g s k (d k)
-  finished {L} {d} q done k l = elim (q.sound k l) [
-    | inl b ↦ inr (b, λ p. (let c = (covered q p (all_within q done p)).0 in let z = ap (λ (x : Entry). x.mark) b in omega arith))
-    | inr (a, p, i, v) ↦ inl (a, record { walk = p; value = v; none_better = λ r. (covered q r (all_within q done r)).1 })
-  ]
+  -- and so the values are the answer
+  pub finished : {L : ℕ → Bool} {d : ℕ → Option ℕ} → Searched m g n s L d → ((k v : ℕ) → k < n → Open L d k v → ⊥) → (k : ℕ) → k < n → Entered m g s k (d k)
+  finished {L} {d} q done k l = at (d k) refl
+    where
+      at : (x : Option ℕ) → d k ≡ x → Entered m g s k x
+      at None e = λ p. (let (v, f, b) = covered q p (all_within q done p) in none-some v (sym e ∙ f))
+      at (Some v) e =
+          let (p, i, a) = q.sound k v l e in
+          record {
+            walk = p;
+            value = a;
+            none_better = λ r. (let (u, f, b) = covered q r (all_within q done r) in let z = same_Some u v (sym f ∙ e) in cc);
+          }
 
-  module _ {L : ℕ → Bool} {d : ℕ → Entry} (q : Searched m g n s L d) (k : ℕ) (picked : Picked m L d n (Some k))
-      (K : ℕ → Bool) (lists : Lists L k K) (f : ℕ → Entry) (relaxed : Relaxed m g n k d f) where
-    offers : (j : ℕ) → j < n → Offer m (d k).value (d j) (g.edge k j) (f j)
-    offers j l = offer m (d k).value (d j) (g.edge k j) (f j) (let e = relaxed j in grind (arith, nat_tests))
+  module _ {L : ℕ → Bool} {d : ℕ → Option ℕ} (q : Searched m g n s L d) (k v : ℕ) (picked : Picked m L d n (Some (k, v)))
+      (K : ℕ → Bool) (lists : Lists L k K) (f : ℕ → Option ℕ) (relaxed : Relaxed m g v k n d f) where
+    offers : (j : ℕ) → j < n → Offer m v (d j) (g.edge k j) (f j)
+    offers j l = offer m v (d j) (g.edge k j) (f j) (let e = relaxed j in grind (arith, nat_tests))
 
     more : (j : ℕ) → L j ≡ true → K j ≡ true
     more j h = let e = lists j in grind (arith, nat_tests)
@@ -92,107 +98,91 @@ module _ {m : Scale} (law : Lawful m) (g : Graph) {n : ℕ} (inside : Inside g n
     which : (j : ℕ) → K j ≡ true → (L j ≡ true) ⊎ (j ≡ k)
     which j h = let e = lists j in elim (cases_eq j k) [ inl z ↦ inr z | inr z ↦ inl (grind (arith, nat_tests)) ]
 
-    still_open : (j : ℕ) → K j ≡ false → (L j ≡ false) × (j ≡ k → ⊥)
-    still_open j h = let e = lists j in elim (cases_eq j k) [ inl z ↦ absurd (grind (arith, nat_tests)) | inr z ↦ (grind (arith, nat_tests), z) ]
+    still_open : (j : ℕ) → K j ≡ false → L j ≡ false
+    still_open j h = let e = lists j in elim (cases_eq j k) [ inl z ↦ absurd (grind (arith, nat_tests)) | inr z ↦ grind (arith, nat_tests) ]
 
     -- k is no better than a listed key
-    above : (i : ℕ) → K i ≡ true → (i < n) × ((d i).mark ≡ 1) × NoBetter m (d k).value (d i).value
+    above : (i : ℕ) → K i ≡ true → (i < n) × (u : ℕ) × (d i ≡ Some u) × NoBetter m v u
     above i h = elim (which i h) [
-      | inl y ↦ ((q.listed i y).0, (q.listed i y).1, q.ordered i k y picked.0 picked.1)
-      | inr y ↦ (omega (arith, picked.0), (let e = picked.1.0 in cc), (let e = itself law (d k).value in cc))
+      | inl y ↦ (let (l, u, e) = q.listed i y in (l, u, e, q.ordered i k u v y e picked.0 picked.1))
+      | inr y ↦ (omega (arith, picked.0), v, ap d y ∙ picked.1.0, itself law v)
     ]
 
-    -- so a listed key keeps its entry
+    -- so a listed key keeps its value
     fixed : (i : ℕ) → K i ≡ true → f i ≡ d i
     fixed i h =
-        let a = above i h in
-        elim (offers i a.0) [
-          | no_edge o e ↦ e
-          | kept w o e z b ↦ e
-          | taken w o e c ↦ elim c [
-            | inl z ↦ absurd (omega (arith, a.1))
-            | inr z ↦ absurd (let t = law.transitive _ _ _ (law.never_better (d k).value w) a.2 in grind arith)
-          ]
+        let (l, u, e, a) = above i h in
+        elim (offers i l) [
+          | no_edge o y ↦ y
+          | kept w x o z y b ↦ y
+          | taken w o y c ↦ absurd (let t = law.transitive _ _ _ (law.never_better v w) a in let b = c u e in grind arith)
         ]
 
-    -- and no entry gets worse
-    improves : (j : ℕ) → j < n → (d j).mark ≡ 1 → ((f j).mark ≡ 1) × NoBetter m (d j).value (f j).value
-    improves j l a = elim (offers j l) [
-      | no_edge o e ↦ (cc, (let t = itself law (d j).value in cc))
-      | kept w o e z b ↦ (cc, (let t = itself law (d j).value in cc))
-      | taken w o e c ↦ (
-        cc,
-        elim c [
-          | inl z ↦ absurd (omega arith)
-          | inr z ↦ (let t = other_way law _ _ z in cc)
-        ],
-      )
+    improves : (j u : ℕ) → j < n → d j ≡ Some u → (x : ℕ) × (f j ≡ Some x) × NoBetter m u x
+    improves j u l e = elim (offers j l) [
+      | no_edge o y ↦ (u, y ∙ e, itself law u)
+      | kept w x o z y b ↦ (u, y ∙ e, itself law u)
+      | taken w o y c ↦ (m.extend v w, y, other_way law _ _ (c u e))
     ]
 
     pub step : Searched m g n s K f
     step = record {
-      sound = λ j l. elim (offers j l) [
-        | no_edge o e ↦ keep j l e
-        | kept w o e z b ↦ keep j l e
-        | taken w o e c ↦ elim (q.sound k picked.0) [
-          | inl b ↦ absurd (let z = ap (λ (x : Entry). x.mark) b in omega (arith, picked.1.0))
-          | inr (a, p, i, v) ↦ inr (cc, on w p o, (now_listed, within_more L K more p i), (let t = ap (λ x. m.extend x w) v in cc))
-        ]
+      sound = λ j u l e. elim (offers j l) [
+        | no_edge o y ↦ keep j u l (sym y ∙ e)
+        | kept w x o z y b ↦ keep j u l (sym y ∙ e)
+        | taken w o y c ↦ (let (p, i, a) = q.sound k v picked.0 picked.1.0 in
+            (on w p o, (now_listed, within_more L K more p i), ap (λ x. m.extend x w) a ∙ same_Some _ _ (sym y ∙ e)))
       ];
-      start = (let t = improves s q.start.0 q.start.1 in (q.start.0, t.0, law.transitive _ _ _ q.start.2 t.1));
-      listed = λ i h. (let a = above i h in (a.0, (improves i a.0 a.1).0));
-      closed = λ i j w h e. elim (which i h) [
-        | inl y ↦ (let c = q.closed i j w y e in let t = improves j (inside i j w e).1 c.0 in let same = fixed i h in
-            (t.0, law.transitive _ _ _ (let b = c.1 in cc) t.1))
-        | inr y ↦ over i j w y e h
+      start = (let (l, u, e, b) = q.start in let (x, y, c) = improves s u l e in (l, x, y, law.transitive _ _ _ b c));
+      listed = λ i h. (let (l, u, e, b) = above i h in (l, u, fixed i h ∙ e));
+      closed = λ i j w u h e o. elim (which i h) [
+        | inl y ↦ (let (x, a, b) = q.closed i j w u y (sym (fixed i h) ∙ e) o in let (t, c, r) = improves j x (inside i j w o).1 a in
+            (t, c, law.transitive _ _ _ b r))
+        | inr y ↦ over i j w u y o (sym (fixed i h) ∙ e)
       ];
-      ordered = λ i j h l o. (
-          let a = above i h in let same = fixed i h in let u = still_open j o.1 in
+      ordered = λ i j u x h e l o. (
+          let (a, t, b, c) = above i h in
+          let z : t ≡ u = same_Some t u (sym b ∙ sym (fixed i h) ∙ e) in
           elim (offers j l) [
-            | no_edge r e ↦ rest i j h l u same e (let t = o.0 in cc)
-            | kept w r e z b ↦ rest i j h l u same e (let t = o.0 in cc)
-            | taken w r e c ↦ (let t = law.transitive _ _ _ (law.never_better (d k).value w) a.2 in cc)
+            | no_edge r y ↦ rest i j u x h l (b ∙ ap Some z) (sym y ∙ o.0, still_open j o.1)
+            | kept w r z' y y' b' ↦ rest i j u x h l (b ∙ ap Some z) (sym y' ∙ o.0, still_open j o.1)
+            | taken w r y b' ↦ (let y' = same_Some _ _ (sym y ∙ o.0) in let g = law.transitive _ _ _ (law.never_better v w) c in cc)
           ]);
     }
       where
-        keep : (j : ℕ) → j < n → f j ≡ d j → Sound m g s K j (f j)
-        keep j l e = elim (q.sound j l) [
-          | inl b ↦ inl (e ∙ b)
-          | inr (a, p, i, v) ↦ inr (cc, p, within_more L K more p i, cc)
-        ]
+        keep : (j u : ℕ) → j < n → d j ≡ Some u → (p : Walk g s j) × Within K p × (along m p ≡ u)
+        keep j u l e = let (p, i, a) = q.sound j u l e in (p, within_more L K more p i, a)
 
-        over : (i j w : ℕ) → i ≡ k → g.edge i j ≡ Some w → K i ≡ true → ((f j).mark ≡ 1) × NoBetter m (m.extend (f i).value w) (f j).value
-        over i j w y e h =
-            let same = fixed i h in
-            elim (offers j (inside i j w e).1) [
-              | no_edge o x ↦ absurd (let z : ◌≡◌ {A = ℕ} 0 1 = cc in omega arith)
-              | kept v o x z b ↦ (let sv : v ≡ w = cc in elim (q.sound j (inside i j w e).1) [
-                | inl t ↦ absurd (z (ap (λ (r : Entry). r.mark) t))
-                | inr (t, p, u, r) ↦ (cc, cc)
-              ])
-              | taken v o x c ↦ (let sv : v ≡ w = cc in (cc, (let t = itself law (m.extend (d k).value w) in cc)))
+        over : (i j w u : ℕ) → i ≡ k → g.edge i j ≡ Some w → d i ≡ Some u → (x : ℕ) × (f j ≡ Some x) × NoBetter m (m.extend u w) x
+        over i j w u y o e =
+            let z : u ≡ v = same_Some u v (sym e ∙ ap d y ∙ picked.1.0) in
+            let o' : g.edge k j ≡ Some w = ap (λ x. g.edge x j) (sym y) ∙ o in
+            elim (offers j (inside i j w o).1) [
+              | no_edge r t ↦ absurd (none-some w (sym r ∙ o'))
+              | kept w' x r t t' b ↦ (let a = same_Some w' w (sym r ∙ o') in (x, t' ∙ t, cc))
+              | taken w' r t c ↦ (let a = same_Some w' w (sym r ∙ o') in (m.extend v w', t, (let b = itself law (m.extend v w') in cc)))
             ]
 
-        rest : (i j : ℕ) → K i ≡ true → j < n → (L j ≡ false) × (j ≡ k → ⊥) → f i ≡ d i → f j ≡ d j → (d j).mark ≡ 1 → NoBetter m (f j).value (f i).value
-        rest i j h l u same e a = elim (which i h) [
-          | inl y ↦ (let t = q.ordered i j y l (a, u.0) in cc)
-          | inr y ↦ (let t = picked.2 j l (a, u.0) in cc)
+        rest : (i j u x : ℕ) → K i ≡ true → j < n → d i ≡ Some u → Open L d j x → NoBetter m x u
+        rest i j u x h l e o = elim (which i h) [
+          | inl y ↦ q.ordered i j u x y e l o
+          | inr y ↦ (let z : u ≡ v = same_Some u v (sym e ∙ ap d y ∙ picked.1.0) in let t = picked.2 j x l o in cc)
         ]
 
-  -- at first only the start is reached, and nothing is listed
-  pub begun : {L : ℕ → Bool} {d : ℕ → Entry} → s < n → ((k : ℕ) → L k ≡ false) → ((k : ℕ) → k < n → (k ≡ s → ⊥) → d k ≡ blank) → d s ≡ reached m.first → Searched m g n s L d
+  -- at first only the start has a value, and nothing is listed
+  pub begun : {L : ℕ → Bool} {d : ℕ → Option ℕ} → s < n → ((k : ℕ) → L k ≡ false) → ((k : ℕ) → (k ≡ s → ⊥) → d k ≡ None) → d s ≡ Some m.first → Searched m g n s L d
   begun {L} {d} l none blanks at-s = record {
-    sound = λ k h. elim (cases_eq k s) [
-      | inl e ↦ inr (here_at k e)
-      | inr e ↦ inl (blanks k h e)
+    sound = λ k v h e. elim (cases_eq k s) [
+      | inl z ↦ here_at k v z (same_Some m.first v (sym at-s ∙ ap d (sym z) ∙ e))
+      | inr z ↦ absurd (none-some v (sym (blanks k z) ∙ e))
     ];
-    start = (l, cc, (let t = itself law m.first in cc));
+    start = (l, m.first, at-s, itself law m.first);
     listed = λ k h. absurd (let e = none k in grind arith);
-    closed = λ i j w h e. absurd (let e = none i in grind arith);
-    ordered = λ i j h r o. absurd (let e = none i in grind arith);
+    closed = λ i j w v h f e. absurd (let e = none i in grind arith);
+    ordered = λ i j u v h f r o. absurd (let e = none i in grind arith);
   }
     where
-      here_at : (k : ℕ) → k ≡ s → ((d k).mark ≡ 1) × (p : Walk g s k) × Within L p × (along m p ≡ (d k).value)
-      here_at k e =
-          let P : ℕ → Type 0 = λ (j : ℕ). ((d j).mark ≡ 1) × (p : Walk g s j) × Within L p × (along m p ≡ (d j).value) in
-          subst P (sym e) (cc, here, tt, cc)
+      here_at : (k v : ℕ) → k ≡ s → m.first ≡ v → (p : Walk g s k) × Within L p × (along m p ≡ v)
+      here_at k v e a =
+          let P : ℕ → Type 0 = λ (j : ℕ). (p : Walk g s j) × Within L p × (along m p ≡ v) in
+          subst P (sym e) (here, tt, a)

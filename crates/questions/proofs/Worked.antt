@@ -1,6 +1,5 @@
 -- The worked case.
-use Rattle.std.proofs.Common.{◌≡◌, ℕ, zero, suc, ◌<◌, [], ◌∷◌, Some, None, Option, refl, subst, inl, inr, arith, rules}
-use Rattle.questions.specs.declared.entry.Entry.{Entry}
+use Rattle.std.proofs.Common.{◌≡◌, ℕ, zero, suc, ◌<◌, [], ◌∷◌, Some, None, Option, refl, subst, inr, arith, rules}
 use Rattle.questions.specs.Graph.{Graph, Inside, Walk, here, on}
 use Rattle.questions.specs.Measures.{Scale, NoBetter, Lawful, total_scale, weakest_scale}
 use Rattle.questions.specs.Best.{along, Entered}
@@ -65,7 +64,7 @@ weakest_bound =
     (below_three (Offers weakest_scale b 1) tt tt refl)
     (below_three (Offers weakest_scale b 2) tt tt tt))
 
-only : {m : Scale} → Lawful m → {s k : ℕ} {x : Entry} → Entered m three s k x → Only m s k x
+only : {m : Scale} → Lawful m → {s k : ℕ} {x : Option ℕ} → Entered m three s k x → Only m s k x
 only law {s} {k} {x} e = (e, λ y f. entry_fixed law three s k y x f e)
 
 -- no edge leaves key 2
@@ -109,7 +108,7 @@ cases = record {
   long_edge = refl;
   no_edge_back = refl;
   order = breadth_first;
-  total = only total_lawful (inl (refl, record { walk = on {k = 1} 2 (on 5 here refl) refl; value = refl; none_better = total_bound }));
-  weakest = only weakest_lawful (inl (refl, record { walk = on 9 here refl; value = refl; none_better = weakest_bound }));
-  no_walk_back = only total_lawful (inr (refl, λ w. (let z = stays w in omega arith)));
+  total = only total_lawful {x = Some 7} (record { walk = on {k = 1} 2 (on 5 here refl) refl; value = refl; none_better = total_bound });
+  weakest = only weakest_lawful {x = Some 9} (record { walk = on 9 here refl; value = refl; none_better = weakest_bound });
+  no_walk_back = only total_lawful {x = None} (λ w. (let z = stays w in omega arith));
 }

@@ -1,10 +1,8 @@
 -- A worked case: three keys, with edges 0 → 1 of 5, 1 → 2 of 2 and 0 → 2 of 9.
-use Rattle.std.specs.Prelude.{◌≡◌, ℕ, List, [], ◌∷◌, Some, None}
-use Rattle.questions.specs.declared.entry.Entry.{Entry}
+use Rattle.std.specs.Prelude.{◌≡◌, ℕ, List, [], ◌∷◌, Some, None, Option}
 use Rattle.questions.specs.Graph.{Graph}
 use Rattle.questions.specs.Pages.{nothing, keys_of, shown}
 use Rattle.questions.specs.Measures.{Scale, total_scale, weakest_scale}
-use Rattle.questions.specs.Search.{blank, reached}
 use Rattle.questions.specs.Best.{Entered}
 use Rattle.questions.specs.Order.{key, BreadthFirst}
 
@@ -16,8 +14,8 @@ abbrev pub three : Graph
 three = shown cells 3
 
 -- the entry of k, asked from s, is x and no other
-abbrev pub Only : Scale → ℕ → ℕ → Entry → Type 0
-Only m s k x = Entered m three s k x × ((y : Entry) → Entered m three s k y → y ≡ x)
+abbrev pub Only : Scale → ℕ → ℕ → Option ℕ → Type 0
+Only m s k x = Entered m three s k x × ((y : Option ℕ) → Entered m three s k y → y ≡ x)
 
 pub record Cases : Type 0 where
   pub keys : keys_of cells 3 ≡ 3
@@ -26,6 +24,6 @@ pub record Cases : Type 0 where
   pub long_edge : three.edge 0 2 ≡ Some 9
   pub no_edge_back : three.edge 2 0 ≡ None
   pub order : BreadthFirst three 0 (key (0 ∷ 1 ∷ 2 ∷ [])) 3
-  pub total : Only total_scale 0 2 (reached 7)
-  pub weakest : Only weakest_scale 0 2 (reached 9)
-  pub no_walk_back : Only total_scale 2 0 blank
+  pub total : Only total_scale 0 2 (Some 7)
+  pub weakest : Only weakest_scale 0 2 (Some 9)
+  pub no_walk_back : Only total_scale 2 0 None

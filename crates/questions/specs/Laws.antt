@@ -1,6 +1,5 @@
 -- What the definitions of the answers come to.
-use Rattle.std.specs.Prelude.{◌≡◌, ℕ, ◌+◌, ◌<◌, ◌≤◌}
-use Rattle.questions.specs.declared.entry.Entry.{Entry}
+use Rattle.std.specs.Prelude.{◌≡◌, ℕ, ◌+◌, ◌<◌, ◌≤◌, Option}
 use Rattle.questions.specs.Graph.{Graph, Walk, here, on}
 use Rattle.questions.specs.Measures.{Scale}
 use Rattle.questions.specs.Best.{Entered}
@@ -8,7 +7,7 @@ use Rattle.questions.specs.Order.{BreadthFirst}
 
 -- there is one entry that a key can have
 abbrev pub EntryFixed : Scale → Type 0
-EntryFixed m = (g : Graph) (s k : ℕ) (x y : Entry) → Entered m g s k x → Entered m g s k y → x ≡ y
+EntryFixed m = (g : Graph) (s k : ℕ) (x y : Option ℕ) → Entered m g s k x → Entered m g s k y → x ≡ y
 
 -- there is one breadth-first list
 abbrev pub OrderFixed : Type 0

@@ -7,4 +7,5 @@ pub mod Best
 pub mod Order
 pub mod Laws
 pub mod Cases
+pub mod Entries
 pub mod Export

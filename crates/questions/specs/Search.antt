@@ -1,46 +1,43 @@
 -- What one step of the search does.
-use Rattle.std.specs.Prelude.{◌≡◌, ℕ, ◌<◌, Bool, true, false, cond, ◌||◌, List, Some, None, Option, ◌==◌, nat_lt, slice_index_or}
-use Rattle.questions.specs.declared.entry.Entry.{Entry}
+use Rattle.std.specs.Prelude.{◌≡◌, ℕ, ◌<◌, ◌≤◌, Bool, true, false, cond, List, Some, None, Option, nat_lt, slice_get, slice_index_or}
+use Rattle.questions.specs.declared.best_first.Label.{Label}
 use Rattle.questions.specs.Graph.{Graph}
 use Rattle.questions.specs.Measures.{Scale, NoBetter}
 
-abbrev pub blank : Entry
-blank = record { mark = 0; value = 0 }
-
-abbrev pub reached : ℕ → Entry
-reached v = record { mark = 1; value = v }
-
--- the entry of a key
-abbrev pub label : List Entry → ℕ → Entry
-label xs k = slice_index_or xs k (record { mark = 0; value = 0 })
-
--- the entries below n are x, and the others are as they were
-abbrev pub Filled : ℕ → Entry → (ℕ → Entry) → (ℕ → Entry) → Type 0
-Filled n x d e = (k : ℕ) → e k ≡ cond (nat_lt k n) x (d k)
+-- the best value found so far of the walks to a key, if one was found
+abbrev pub value_at : List Label → ℕ → Option ℕ
+value_at xs k = (slice_index_or xs k (record { value = None; listed = false })).value
 
 -- whether a key is listed
+abbrev pub listed_at : List Label → ℕ → Bool
+listed_at xs k = (slice_index_or xs k (record { value = None; listed = false })).listed
+
+-- a flag for each key
 abbrev pub flag : List Bool → ℕ → Bool
 flag bs k = slice_index_or bs k false
 
--- reached, and not listed
-abbrev pub Open : (ℕ → Bool) → (ℕ → Entry) → ℕ → Type 0
-Open L d k = ((d k).mark ≡ 1) × (L k ≡ false)
+-- has the value v, and is not listed
+abbrev pub Open : (ℕ → Bool) → (ℕ → Option ℕ) → ℕ → ℕ → Type 0
+Open L d k v = (d k ≡ Some v) × (L k ≡ false)
 
--- of the open keys below n, the one with the best value, the lowest of equal ones
-abbrev pub Picked : Scale → (ℕ → Bool) → (ℕ → Entry) → ℕ → Option ℕ → Type 0
-Picked m L d n None = (k : ℕ) → k < n → Open L d k → ⊥
-Picked m L d n (Some b) = (b < n) × Open L d b ×
-    ((k : ℕ) → k < n → Open L d k → NoBetter m (d k).value (d b).value) ×
-    ((k : ℕ) → k < b → Open L d k → m.better (d b).value (d k).value ≡ true)
+-- of the open keys below n, the one with the best value, the lowest of equal ones, and its value
+abbrev pub Picked : Scale → (ℕ → Bool) → (ℕ → Option ℕ) → ℕ → Option (ℕ × ℕ) → Type 0
+Picked m L d n None = (k v : ℕ) → k < n → Open L d k v → ⊥
+Picked m L d n (Some (b, v)) = (b < n) × Open L d b v ×
+    ((k w : ℕ) → k < n → Open L d k w → NoBetter m w v) ×
+    ((k w : ℕ) → k < b → Open L d k w → m.better v w ≡ true)
 
--- an entry, once it was offered a value over an edge, or over none
-abbrev pub offered : Scale → ℕ → Entry → Option ℕ → Entry
+-- the value of a key, once it was offered v over an edge, or over none
+abbrev pub offered : Scale → ℕ → Option ℕ → Option ℕ → Option ℕ
 offered m v x None = x
-offered m v x (Some w) = cond (x.mark == 0 || m.better (m.extend v w) x.value) (reached (m.extend v w)) x
+offered m v None (Some w) = Some (m.extend v w)
+offered m v (Some u) (Some w) = Some (cond (m.better (m.extend v w) u) (m.extend v w) u)
 
 -- the keys below n have been offered the value v, extended over the edges from k
-abbrev pub RelaxedTo : Scale → Graph → ℕ → ℕ → ℕ → (ℕ → Entry) → (ℕ → Entry) → Type 0
-RelaxedTo m g v k n d e = (j : ℕ) → e j ≡ cond (nat_lt j n) (offered m v (d j) (g.edge k j)) (d j)
+abbrev pub Relaxed : Scale → Graph → ℕ → ℕ → ℕ → (ℕ → Option ℕ) → (ℕ → Option ℕ) → Type 0
+Relaxed m g v k n d e = (j : ℕ) → e j ≡ cond (nat_lt j n) (offered m v (d j) (g.edge k j)) (d j)
 
-abbrev pub Relaxed : Scale → Graph → ℕ → ℕ → (ℕ → Entry) → (ℕ → Entry) → Type 0
-Relaxed m g n k d e = RelaxedTo m g (d k).value k n d e
+-- the values of the first n labels stand in the area, in its form, and past them what it held before
+pub record Written {A : Type 0} (Form : Option ℕ → A → Type 0) (labels : List Label) (n : ℕ) (old new : List A) : Type 0 where
+  pub front : (k : ℕ) → k < n → (y : A) × (slice_get new k ≡ Some y) × Form (value_at labels k) y
+  pub others : (k : ℕ) → n ≤ k → slice_get new k ≡ slice_get old k

@@ -1,32 +1,61 @@
 // The keys that walks from a key reach, breadth first.
-ghost use Rattle.std.specs.Prelude.{◌≡◌, ℕ, ◌+◌, ◌<◌, ◌≤◌, true, false, length, is_some, if◌then◌else◌, slice_set};
+ghost use Rattle.std.specs.Prelude.{◌≡◌, ℕ, ◌+◌, ◌<◌, ◌≤◌, false, length, slice_set};
 ghost use Rattle.questions.specs.Search.{flag};
 ghost use Rattle.questions.specs.Unanswered.{unanswered, Refuses};
-ghost use Rattle.questions.specs.Order.{Ordered, OrderedOr};
+ghost use Rattle.questions.specs.Order.{Ordered, OrderedOr, Next};
 
 use crate::unanswered::{Unanswered, asked};
 use crate::view::GraphView;
 
-// Whether an edge leads from `i` to `j`.
-fn leads<G: GraphView>(page: &G, i: usize, j: usize) -> bool
-    ensures { result ≡ is_some ((G.graph page.now).edge i j) }
-{
-    page.weight(i, j).is_some()
+// The keys listed so far, at the front of the caller's area, and how many of them were served.
+#[derive(Drop)]
+struct Listing<'a> {
+    out: &'a mut [u8],
+    count: usize,
+    served: usize,
 }
 
-// Lists the key `j` after the `count` keys listed so far, unless it is seen, and answers how many are listed then.
-fn append(j: usize, out: &mut [u8], count: usize, seen: &mut bool) -> usize
-    requires { (j < 64) × ((seen.old ≡ false → count < length out.old)) }
-    ensures count { result ≡ (if seen.old then count else count + 1) }
-    ensures list { out.new ≡ (if seen.old then out.old else slice_set out.old count j) }
-    ensures seen { seen.new ≡ true }
-{
-    if *seen {
-        return count;
+impl<'a> Listing<'a> {
+    // A list of no keys.
+    fn new(out: &'a mut [u8]) -> Listing<'a>
+        ensures same_reference { result.out.ghost_name ≡ out.entry.ghost_name }
+        ensures area { result.out.now ≡ out.old }
+        ensures none { (result.count ≡ 0) × (result.served ≡ 0) }
+    {
+        Listing {
+            out,
+            count: 0,
+            served: 0,
+        }
     }
-    out[count] = j as u8;
-    *seen = true;
-    count + 1
+
+    // Lists a key.
+    fn push(&mut self, j: usize)
+        requires { (j < 64) × (self.old.count < length self.old.out.now) }
+        ensures same_reference { self.new.out.ghost_name ≡ self.old.out.ghost_name }
+        ensures area { self.new.out.now ≡ slice_set self.old.out.now self.old.count j }
+        ensures count { self.new.count ≡ self.old.count + 1 }
+        ensures served { self.new.served ≡ self.old.served }
+    {
+        self.out[self.count] = j as u8;
+        self.count += 1;
+    }
+
+    // The next key to serve, if one is left.
+    fn next(&mut self) -> Option<usize>
+        requires { self.old.count ≤ length self.old.out.now }
+        ensures same_reference { self.new.out.ghost_name ≡ self.old.out.ghost_name }
+        ensures area { self.new.out.now ≡ self.old.out.now }
+        ensures count { self.new.count ≡ self.old.count }
+        ensures served { Next self.old.out.now self.old.count self.old.served self.new.served result }
+    {
+        if self.served >= self.count {
+            return None;
+        }
+        let k = self.out[self.served] as usize;
+        self.served += 1;
+        Some(k)
+    }
 }
 
 // Serves the listed keys in turn, and lists their neighbours, rising, that are not listed yet.
@@ -37,20 +66,18 @@ fn spread<G: GraphView>(page: &G, start: usize, out: &mut [u8], listed: &mut [bo
 {
     // Every edge joins keys below `n`.
     let n = page.len();
-    out[0] = start as u8;
+    let mut listing = Listing::new(out);
+    listing.push(start);
     listed[start] = true;
-    let mut count = 1;
-    let mut head = 0;
-    while head < count {
-        let k = out[head] as usize;
+    while let Some(k) = listing.next() {
         for (j, seen) in listed.iter_mut().enumerate() {
-            if leads(page, k, j) {
-                count = append(j, out, count, seen);
+            if page.weight(k, j).is_some() && !*seen {
+                *seen = true;
+                listing.push(j);
             }
         }
-        head += 1;
     }
-    count
+    listing.count
 }
 
 // Writes the keys that walks from `start` reach into `out`, breadth first, and answers how many they are.
@@ -61,5 +88,5 @@ pub fn order<G: GraphView>(page: &G, start: usize, out: &mut [u8]) -> Result<usi
     asked(page, start, out.len())?;
     let n = page.len();
     let mut listed = [false; 64];
-    Ok(spread(page, start, out, &mut listed[0..n]))
+    Ok(spread(page, start, out, &mut listed[..n]))
 }

@@ -1,64 +1,64 @@
-// The questions over the cells of a page: each answers 0, or the byte of the reason why there is no answer. The crate questions_c
-// exports them for a C program.
+// The questions over the cells of a page. The crate questions_c exports them for a C program.
 ghost use Rattle.std.specs.Prelude.{◌≡◌, length};
 ghost use Rattle.questions.specs.Measures.{total_scale, weakest_scale};
-ghost use Rattle.questions.specs.Export.{answer_byte, OrderedAt, AnsweredAt};
+ghost use Rattle.questions.specs.Pages.{shown};
+ghost use Rattle.questions.specs.Unanswered.{Refuses};
+ghost use Rattle.questions.specs.Order.{OrderedOr};
+ghost use Rattle.questions.specs.Export.{unanswered_on, EntriesOr};
 
-use crate::best_first::best;
+use crate::best_first::answer;
 use crate::breadth_first::order;
 use crate::entry::Entry;
 use crate::measure::{Measure, Total, Weakest};
 use crate::page::Page;
-use crate::view::GraphView;
-use codes::Refusal;
+use crate::unanswered::Unanswered;
 
 pub fn questions_order(
     cells: &[u32],
     keys: usize,
     start: usize,
     out: &mut [u8],
-    count: &mut usize,
-) -> u8
-    ensures answer { result ≡ answer_byte cells.now keys start (length out.old) }
-    ensures after { OrderedAt result cells.now keys start out.old out.new count.old count.new }
+) -> Result<usize, Unanswered>
+    ensures answer { Refuses (unanswered_on cells.now keys start (length out.old)) result }
+    ensures after { OrderedOr result (shown cells.now keys) start out.old out.new }
 {
-    let page = Page::new(cells, keys);
-    if page.len() == 0 {
-        return Refusal::SizeOutside.code();
-    }
-    match order(&page, start, out) {
-        Ok(listed) => {
-            *count = listed;
-            0
-        }
-        Err(why) => why.code(),
-    }
+    let page = Page::try_new(cells, keys)?;
+    order(&page, start, out)
 }
 
-fn best_of<M: Measure>(cells: &[u32], keys: usize, start: usize, out: &mut [Entry]) -> u8
-    ensures answer { result ≡ answer_byte cells.now keys start (length out.old) }
-    ensures after { AnsweredAt result M.scale cells.now keys start out.old out.new }
+fn best_of<M: Measure>(
+    cells: &[u32],
+    keys: usize,
+    start: usize,
+    out: &mut [Entry],
+) -> Result<(), Unanswered>
+    ensures answer { Refuses (unanswered_on cells.now keys start (length out.old)) result }
+    ensures after { EntriesOr result M.scale cells.now keys start out.old out.new }
 {
-    let page = Page::new(cells, keys);
-    if page.len() == 0 {
-        return Refusal::SizeOutside.code();
-    }
-    match best::<Page<'_>, M>(&page, start, out) {
-        Ok(()) => 0,
-        Err(why) => why.code(),
-    }
+    let page = Page::try_new(cells, keys)?;
+    answer::<Page<'_>, M, Entry>(&page, start, out)
 }
 
-pub fn questions_total(cells: &[u32], keys: usize, start: usize, out: &mut [Entry]) -> u8
-    ensures answer { result ≡ answer_byte cells.now keys start (length out.old) }
-    ensures after { AnsweredAt result total_scale cells.now keys start out.old out.new }
+pub fn questions_total(
+    cells: &[u32],
+    keys: usize,
+    start: usize,
+    out: &mut [Entry],
+) -> Result<(), Unanswered>
+    ensures answer { Refuses (unanswered_on cells.now keys start (length out.old)) result }
+    ensures after { EntriesOr result total_scale cells.now keys start out.old out.new }
 {
     best_of::<Total>(cells, keys, start, out)
 }
 
-pub fn questions_weakest(cells: &[u32], keys: usize, start: usize, out: &mut [Entry]) -> u8
-    ensures answer { result ≡ answer_byte cells.now keys start (length out.old) }
-    ensures after { AnsweredAt result weakest_scale cells.now keys start out.old out.new }
+pub fn questions_weakest(
+    cells: &[u32],
+    keys: usize,
+    start: usize,
+    out: &mut [Entry],
+) -> Result<(), Unanswered>
+    ensures answer { Refuses (unanswered_on cells.now keys start (length out.old)) result }
+    ensures after { EntriesOr result weakest_scale cells.now keys start out.old out.new }
 {
     best_of::<Weakest>(cells, keys, start, out)
 }

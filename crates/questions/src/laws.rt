@@ -5,23 +5,17 @@ ghost use Rattle.questions.specs.Laws.{EntryFixed, OrderFixed, DistancesNeverFal
 use crate::measure::Measure;
 
 // There is one entry that a key can have, so an answer over walks is one answer.
-pub fn entries_fixed<M: Measure>() -> u8
+pub fn entries_fixed<M: Measure>()
     ensures { EntryFixed M.scale }
-{
-    0
-}
+{}
 
 // There is one breadth-first list, and along it the distances in edges never fall.
-pub fn order_stands() -> u8
+pub fn order_stands()
     ensures fixed { OrderFixed }
     ensures distances { DistancesNeverFall }
-{
-    0
-}
+{}
 
 // The worked case holds of the definitions.
-pub fn cases_stand() -> u8
+pub fn cases_stand()
     ensures { Cases }
-{
-    0
-}
+{}

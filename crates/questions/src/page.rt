@@ -1,8 +1,10 @@
 // A page of cells: one for each key, then one for each pair of keys.
-ghost use Rattle.std.specs.Prelude.{◌≡◌, ◌+◌, ◌*◌, ◌≤◌, length};
-ghost use Rattle.questions.specs.Pages.{keys_of, weight_of, shown};
+ghost use Rattle.std.specs.Prelude.{◌≡◌, ◌+◌, ◌*◌, ◌≤◌, length, is_ok, IfOk, IfErr};
+ghost use Rattle.codes.specs.declared.refusal.Refusal.TheVariants.{SizeOutside};
+ghost use Rattle.questions.specs.Pages.{fits, keys_of, weight_of, shown};
 
 use crate::view::GraphView;
+use codes::Refusal;
 
 #[derive(Drop)]
 pub struct Page<'a> {
@@ -17,10 +19,19 @@ impl<'a> Page<'a> {
         ensures cells { result.cells.now ≡ cells.now }
         ensures keys { result.keys ≡ keys_of cells.now keys }
     {
-        if 1 <= keys && keys <= 64 && cells.len() == keys + keys * keys {
-            Page { cells, keys }
+        Page::try_new(cells, keys).unwrap_or(Page { cells, keys: 0 })
+    }
+
+    // A page of so many keys; cells that make no page are refused.
+    pub fn try_new(cells: &'a [u32], keys: usize) -> Result<Page<'a>, Refusal>
+        ensures fits { is_ok result ≡ fits cells.now keys }
+        ensures page { IfOk result (λ page. (page.cells.now ≡ cells.now) × (page.keys ≡ keys)) }
+        ensures refusal { IfErr result (λ why. why ≡ SizeOutside) }
+    {
+        if (1..=64).contains(&keys) && cells.len() == keys + keys * keys {
+            Ok(Page { cells, keys })
         } else {
-            Page { cells, keys: 0 }
+            Err(Refusal::SizeOutside)
         }
     }
 }
@@ -32,7 +43,7 @@ pub const NOTHING: u32 = 0;
 fn weight_of(cell: u32) -> Option<u32>
     ensures { result ≡ weight_of cell }
 {
-    if cell == NOTHING { None } else { Some(cell) }
+    (cell != NOTHING).then_some(cell)
 }
 
 impl<'a> GraphView for Page<'a> {

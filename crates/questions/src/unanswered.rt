@@ -1,25 +1,47 @@
 // Why a question is not answered, and the byte of each reason.
 ghost use Rattle.std.specs.Prelude.{◌≡◌};
+ghost use Rattle.questions.specs.declared.unanswered.Unanswered.TheVariants.{Refused};
 ghost use Rattle.questions.specs.Unanswered.{unanswered_code, unanswered, Refuses};
 
 use crate::view::GraphView;
 use codes::{Answer, Refusal};
+use std::fmt;
 
-#[derive(Clone, Copy)]
+#[derive(Clone, Copy, PartialEq, Eq, Debug)]
 pub enum Unanswered {
     Refused(Refusal),
     // The start is not on the page.
     Absent,
 }
 
-impl Unanswered {
-    pub fn code(self) -> u8
-        ensures { result ≡ unanswered_code self }
-    {
-        match self {
-            Unanswered::Refused(refusal) => refusal.code(),
-            Unanswered::Absent => Answer::VertexAbsent.code(),
+impl From<Refusal> for Unanswered {
+    ghost from_gives = { λ refusal made. made ≡ Refused refusal };
+
+    fn from(refusal: Refusal) -> Unanswered {
+        Self::Refused(refusal)
+    }
+}
+
+impl From<Unanswered> for u8 {
+    ghost from_gives = { λ why made. made ≡ unanswered_code why };
+
+    fn from(why: Unanswered) -> u8 {
+        match why {
+            Unanswered::Refused(refusal) => refusal.into(),
+            Unanswered::Absent => Answer::VertexAbsent.into(),
         }
+    }
+}
+
+impl fmt::Display for Unanswered {
+    fn fmt<W: fmt::Write>(&self, f: &mut fmt::Formatter<W>) -> fmt::Result {
+        f.write_str(match self {
+            Unanswered::Absent => "the page does not show the start",
+            Unanswered::Refused(Refusal::SizeOutside) => "the cells make no page",
+            Unanswered::Refused(Refusal::KeyOutside) => "the start is not below the number of keys",
+            Unanswered::Refused(Refusal::AreaTooSmall) => "the area is too small",
+            Unanswered::Refused(refusal) => return write!(f, "refusal {:02X}", u8::from(*refusal)),
+        })
     }
 }
 
@@ -29,10 +51,10 @@ pub fn asked<G: GraphView>(page: &G, start: usize, area: usize) -> Result<(), Un
 {
     let n = page.len();
     if start >= n {
-        return Err(Unanswered::Refused(Refusal::KeyOutside));
+        return Err(Refusal::KeyOutside.into());
     }
     if area < n {
-        return Err(Unanswered::Refused(Refusal::AreaTooSmall));
+        return Err(Refusal::AreaTooSmall.into());
     }
     if !page.shows(start) {
         return Err(Unanswered::Absent);

@@ -2,10 +2,19 @@
 #![tactic(auto)]
 
 ghost use Rattle.std.specs.Prelude.{◌≡◌, length};
-ghost use Rattle.questions.specs.Export.{answer_byte, AnsweredAt, OrderedAt};
+ghost use Rattle.questions.specs.Export.{answer_byte, result_byte, AnsweredAt, OrderedAt};
 ghost use Rattle.questions.specs.Measures.{total_scale, weakest_scale};
 
-use questions::Entry;
+use questions::{Entry, Unanswered};
+
+fn byte(answer: Result<(), Unanswered>) -> u8
+    ensures { result ≡ result_byte answer }
+{
+    match answer {
+        Ok(()) => 0,
+        Err(why) => why.into(),
+    }
+}
 
 #[unsafe(no_mangle)]
 pub extern "C" fn questions_order(
@@ -18,7 +27,13 @@ pub extern "C" fn questions_order(
     ensures answer { result ≡ answer_byte cells.now keys start (length out.old) }
     ensures after { OrderedAt result cells.now keys start out.old out.new count.old count.new }
 {
-    questions::questions_order(cells, keys, start, out, count)
+    match questions::questions_order(cells, keys, start, out) {
+        Ok(listed) => {
+            *count = listed;
+            0
+        }
+        Err(why) => why.into(),
+    }
 }
 
 #[unsafe(no_mangle)]
@@ -26,7 +41,7 @@ pub extern "C" fn questions_total(cells: &[u32], keys: usize, start: usize, out:
     ensures answer { result ≡ answer_byte cells.now keys start (length out.old) }
     ensures after { AnsweredAt result total_scale cells.now keys start out.old out.new }
 {
-    questions::questions_total(cells, keys, start, out)
+    byte(questions::questions_total(cells, keys, start, out))
 }
 
 #[unsafe(no_mangle)]
@@ -39,5 +54,5 @@ pub extern "C" fn questions_weakest(
     ensures answer { result ≡ answer_byte cells.now keys start (length out.old) }
     ensures after { AnsweredAt result weakest_scale cells.now keys start out.old out.new }
 {
-    questions::questions_weakest(cells, keys, start, out)
+    byte(questions::questions_weakest(cells, keys, start, out))
 }

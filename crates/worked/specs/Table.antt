@@ -1,5 +1,5 @@
 -- The worked cases, shown of the rules.
-use Rattle.std.specs.Prelude.{◌≡◌, [], ◌∷◌, replicate, Ok, Err, codes}
+use Rattle.std.specs.Prelude.{◌≡◌, [], ◌∷◌, replicate, Some, Ok, Err, codes}
 use Rattle.std.proofs.Common.{lit≤}
 use Rattle.codes.specs.declared.refusal.Refusal.TheVariants.{SizeOutside, TooFewCells}
 use Rattle.layout.specs.declared.sizes.Sizes.{Sizes}
@@ -10,7 +10,6 @@ use Rattle.stepper.specs.Opening.{opened, opened_state}
 use Rattle.stepper.specs.Workers.{fresh_table}
 use Rattle.questions.specs.Cases.{Only}
 use Rattle.questions.specs.Measures.{total_scale, weakest_scale}
-use Rattle.questions.specs.Search.{reached}
 use Rattle.worked.specs.Play.{replies}
 
 -- two keys, two workers, four rows of each kind, greatest clock 9
@@ -104,5 +103,5 @@ pub record Table : Type 0 where
       ≡
       (codes "8200" ∷ (codes "831006" ∷ (codes "8200" ∷ (codes "834002" ∷ []))))
   -- edges 0 → 1 of 5, 1 → 2 of 2 and 0 → 2 of 9: from 0 to 2 the total is 7 and the weakest is 9, and nothing else
-  pub total : Only total_scale 0 2 (reached 7)
-  pub weakest : Only weakest_scale 0 2 (reached 9)
+  pub total : Only total_scale 0 2 (Some 7)
+  pub weakest : Only weakest_scale 0 2 (Some 9)

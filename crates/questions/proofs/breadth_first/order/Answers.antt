@@ -1,9 +1,6 @@
-use Rattle.std.proofs.Common.{length, arith, rules}
-use Rattle.questions.proofs.Counting.{none_listed_part}
-use Rattle.questions.proofs.Asking.{start_and_area}
+use Rattle.std.proofs.Common.{false}
+use Rattle.questions.proofs.Copies.{part_of_copies}
 use Rattle.questions.proofs.breadth_first.order.Goals as goal
 
-pub spread-requires : goal.spread-requires
-spread-requires g c =
-    let a = start_and_area tt (g.G.GraphView.keys c.args.page.now) (g.G.GraphView.graph c.args.page.now) c.args.start (length c.args.out.now) c.in_ok-asked.ensures in
-    (record { start_bound = (omega arith, (omega arith, search rules)); by_index = λ k. none_listed_part _ 64 k })
+pub spread-requires-clause-by_index : goal.spread-requires-clause-by_index
+spread-requires-clause-by_index g c = λ k. part_of_copies _ 64 k false

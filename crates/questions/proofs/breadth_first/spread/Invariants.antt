@@ -1,18 +1,16 @@
-use Rattle.std.proofs.Common.{◌≡◌, ℕ, ◌-◌, ◌≤◌}
-use Rattle.questions.specs.Search.{flag}
-use Rattle.questions.specs.Order.{key}
-use Rattle.questions.proofs.Spreading.{Spread}
-use Rattle.questions.proofs.Listing.{Serving}
+use Rattle.std.proofs.Common.{◌≡◌, ℕ, ◌+◌, ◌-◌}
+use Rattle.questions.proofs.Listing.{Served, Serving}
 use Rattle.questions.proofs.breadth_first.spread.Given as goal
 
 abbrev pub invariant-loop-j : goal.invariant-loop-j
 invariant-loop-j g l =
-    Serving (g.G.GraphView.graph l.page) l.n l.start l.head l.j l.listed l.out l.count l.initial.out l.initial.count
+    (l.listing.out.ghost_name ≡ l.initial.listing.out.ghost_name) × (h : ℕ) × (l.listing.served ≡ h + 1) × (l.initial.listing.served ≡ h + 1) ×
+    Serving (g.G.GraphView.graph l.page) l.n l.start h l.j l.listed l.listing.out.now l.listing.count l.k l.fn.out
 
-abbrev pub invariant-loop-head : goal.invariant-loop-head
-invariant-loop-head g l =
-    Spread (g.G.GraphView.graph l.page) l.n l.start l.head 0 (flag l.listed) (key l.out) l.count ×
-    (l.head ≤ l.count) × ((p : ℕ) → l.count ≤ p → key l.out p ≡ key l.initial.out p)
+abbrev pub invariant-loop-k : goal.invariant-loop-k
+invariant-loop-k g l =
+    (l.listing.out.ghost_name ≡ l.initial.listing.out.ghost_name) ×
+    Served (g.G.GraphView.graph l.page) l.n l.start l.listing.served l.listed l.listing.out.now l.listing.count l.fn.out
 
-abbrev pub decreases-loop-head : goal.decreases-loop-head
-decreases-loop-head g l = l.n - l.head
+abbrev pub decreases-loop-k : goal.decreases-loop-k
+decreases-loop-k g l = l.n - l.listing.served

@@ -1,0 +1,53 @@
+-- What a write to one label changes.
+use Rattle.std.proofs.Common.{◌≡◌, ℕ, ◌<◌, ◌≤◌, true, false, List, None, length, take, set, replicate, ap, inl, inr, arith}
+use Rattle.std.proofs.lemmas.List.{get_or-set_same, get_or-set_other, length-take, length-replicate}
+use Rattle.std.proofs.lemmas.Bool.{cases_eq}
+use Rattle.std.proofs.lemmas.Bool.Decides.{nat_tests}
+use Rattle.questions.specs.declared.best_first.Label.{Label}
+use Rattle.questions.specs.Search.{value_at, listed_at}
+use Rattle.questions.proofs.Copies.{part_of_copies}
+use Rattle.questions.proofs.Counting.{Lists}
+
+abbrev blank : Label
+blank = record { value = None; listed = false }
+
+module _ (xs : List Label) (k : ℕ) (y : Label) where
+  pub value_same : k < length xs → value_at (set xs k y) k ≡ y.value
+  value_same l = ap (λ (x : Label). x.value) (get_or-set_same xs k y blank l)
+
+  pub value_other : (j : ℕ) → (j ≡ k → ⊥) → value_at (set xs k y) j ≡ value_at xs j
+  value_other j e = ap (λ (x : Label). x.value) (get_or-set_other xs k j y blank e)
+
+  -- a write that keeps the value
+  pub values_stay : k < length xs → y.value ≡ value_at xs k → (j : ℕ) → value_at (set xs k y) j ≡ value_at xs j
+  values_stay l e j = elim (cases_eq j k) [
+    | inl z ↦ (let s = value_same l in cc)
+    | inr z ↦ value_other j z
+  ]
+
+  listed_same : k < length xs → listed_at (set xs k y) k ≡ y.listed
+  listed_same l = ap (λ (x : Label). x.listed) (get_or-set_same xs k y blank l)
+
+  listed_other : (j : ℕ) → (j ≡ k → ⊥) → listed_at (set xs k y) j ≡ listed_at xs j
+  listed_other j e = ap (λ (x : Label). x.listed) (get_or-set_other xs k j y blank e)
+
+  -- a write that keeps the flag
+  pub flags_stay : k < length xs → y.listed ≡ listed_at xs k → (j : ℕ) → listed_at (set xs k y) j ≡ listed_at xs j
+  flags_stay l e j = elim (cases_eq j k) [
+    | inl z ↦ (let s = listed_same l in cc)
+    | inr z ↦ listed_other j z
+  ]
+
+  -- a write that lists the key
+  pub lists : k < length xs → y.listed ≡ true → Lists (listed_at xs) k (listed_at (set xs k y))
+  lists l e j = elim (cases_eq j k) [
+    | inl z ↦ (let s = listed_same l in grind (arith, nat_tests))
+    | inr z ↦ (let s = listed_other j z in grind (arith, nat_tests))
+  ]
+
+-- labels that are all blank
+pub blank_part : (i n k : ℕ) → (value_at (take i (replicate n blank)) k ≡ None) × (listed_at (take i (replicate n blank)) k ≡ false)
+blank_part i n k = let e = part_of_copies i n k blank in (ap (λ (x : Label). x.value) e, ap (λ (x : Label). x.listed) e)
+
+pub length_part : (i n : ℕ) → i ≤ n → length (take i (replicate n blank)) ≡ i
+length_part i n h = omega (arith, length-take i (replicate n blank), length-replicate n blank)
