@@ -1,11 +1,12 @@
 -- A row that is filled for a link: which cells change, and what they then hold.
-use Rattle.std.proofs.Common.{rules, ◌≡◌, ℕ, ◌<◌, List, length, sym, refl, subst, arith}
+use Rattle.std.proofs.Common.{rules, ◌≡◌, ℕ, List, sym, refl, subst, arith}
 use Rattle.std.proofs.lemmas.List.{get_or-set_same}
 use Rattle.layout.specs.declared.sizes.Sizes.{Sizes}
 use Rattle.layout.specs.declared.names.Kind.{Kind}
 use Rattle.layout.specs.declared.names.Kind.TheVariants.{Edge}
 use Rattle.layout.specs.declared.names.Field.{Field}
 use Rattle.layout.specs.declared.names.Field.TheVariants.{Ins, Del}
+use Rattle.layout.specs.declared.names.Head.{Head}
 use Rattle.layout.specs.declared.names.Cell.{Cell}
 use Rattle.layout.specs.declared.names.Cell.TheVariants as cell
 use Rattle.layout.specs.Layout.{index_of, Named, IsRow}
@@ -84,6 +85,9 @@ module _ (z : Sizes) (cs : List ℕ) (d : Change) (h r : ℕ) (n : IsRow z (chan
       (put_at z P two (cell.Stamp k Del r) c 0 m n enough_two (λ e. fill (cell.Stamp k Del r) (refl, refl) e _)
       (put_at z P one (cell.Stamp k Ins r) c pending m n enough_one (λ e. fill (cell.Stamp k Ins r) (refl, refl) e _)
       (put_at z P cs (cell.Older k r) c h m n l (λ e. fill (cell.Older k r) (refl, refl) e _) there)))
+
+  pub head_filled : (g : Head) → Named z (cell.Head g) → cell_at z (filled z cs d h r) (cell.Head g) ≡ cell_at z cs (cell.Head g)
+  head_filled g m = fill_at (λ y. y ≡ cell_at z cs (cell.Head g)) (cell.Head g) m (λ b y. absurd b) refl
 
   -- older is the head that was read
   pub older_filled : cell_at z (filled z cs d h r) (cell.Older (change_kind d) r) ≡ h

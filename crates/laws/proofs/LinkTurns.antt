@@ -1,39 +1,34 @@
 -- A link turn: whether the swap says yes, and what the new row holds.
-use Rattle.std.proofs.Common.{◌≡◌, ℕ, ◌<◌, Bool, true, false, cond, eqb, ltb, List, length, Some, None, Option, sym, refl, ap, ◌∙◌, subst, arith}
-use Rattle.std.proofs.lemmas.List.{get_or-set_same}
+use Rattle.std.proofs.Common.{◌≡◌, ℕ, ◌<◌, Bool, true, false, eqb, List, length, Some, Option, sym, refl, ap, ◌∙◌, arith}
 use Rattle.std.proofs.lemmas.Bool.{eq-eqb, lt-ltb, both_ways}
 use Rattle.std.specs.Bool.{then_some}
-use Rattle.std.specs.Option.{is_some, unwrap_or}
+use Rattle.std.specs.Option.{is_some}
 use Rattle.layout.specs.declared.sizes.Sizes.{Sizes}
-use Rattle.layout.specs.declared.names.Kind.{Kind}
 use Rattle.layout.specs.declared.names.Field.{Field}
-use Rattle.layout.specs.declared.names.Field.TheVariants.{Ins, Del}
 use Rattle.layout.specs.declared.names.Cell.{Cell}
 use Rattle.layout.specs.declared.names.Cell.TheVariants as cell
 use Rattle.layout.specs.Layout.{index_of, Named, IsRow}
 use Rattle.layout.proofs.Regions.{index_lt}
 use Rattle.places.specs.declared.place.Change.{Change}
-use Rattle.places.specs.declared.place.Change.TheVariants as change
 use Rattle.places.specs.declared.place.Place.{Place}
 use Rattle.places.specs.declared.place.Place.TheVariants as place
 use Rattle.places.specs.declared.place.Touch.TheVariants as touch
 use Rattle.places.specs.declared.place.Next.{Next}
 use Rattle.places.specs.declared.place.Next.TheVariants as next
-use Rattle.places.specs.Marks.{pending}
 use Rattle.places.specs.Private.{link_kind}
 use Rattle.places.specs.Touches.{change_head, change_kind, link_touch, touch_of}
 use Rattle.places.specs.Nexts.{link_done as next_link, next_of}
 use Rattle.stepper.specs.States.{State}
-use Rattle.stepper.specs.Effects.{put, bound, filled, link_done, got_of, cells_after, entered}
+use Rattle.stepper.specs.Effects.{filled, link_done, got_of, cells_after, entered}
 use Rattle.stepper.specs.Turns.{worker_at, cell_at, spare_for, hand_of, next_at, turned}
 use Rattle.stepper.specs.Workers.{followed}
 use Rattle.laws.specs.Fits.{FitChange}
 use Rattle.laws.specs.Changes.{next_own, number_in}
 use Rattle.laws.specs.Stamps.{field_start}
 use Rattle.laws.proofs.Heads.{change_named}
-use Rattle.laws.proofs.Puts.{Enough, enough_set, put_at, swap_at}
+use Rattle.laws.proofs.Puts.{Enough, swap_at}
 use Rattle.laws.proofs.Owned.{next_own_lem}
-use Rattle.laws.proofs.Fills.{fill_at, enough_filled, older_filled, stamp_filled}
+use Rattle.laws.proofs.Fills.{head_filled, enough_filled, older_filled, stamp_filled}
 
 -- what follows at a place
 abbrev next_from : State → ℕ → Place → Next
@@ -56,7 +51,7 @@ module _ (s : State) (w : ℕ) (d : Change) (h : ℕ) (l : Enough s.sizes s.cell
       let c' : List ℕ = filled z s.cells d h r in
       let e : Enough z c' = enough_filled z s.cells d h r l in
       let i : index_of z top < length c' = omega (arith, index_lt z top n) in
-      let same : cell_at z c' top ≡ number_in s top = fill_at z s.cells d h r row l (λ y. y ≡ number_in s top) top n (λ b y. absurd b) refl in
+      let same : cell_at z c' top ≡ number_in s top = head_filled z s.cells d h r row l (change_head d) n in
       rw (lt-ltb (index_of z top) (length c') i, same) refl
 
   done_is : (b : Bool) (x : ℕ) → is_some (then_some b x) ≡ b

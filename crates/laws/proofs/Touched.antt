@@ -2,7 +2,7 @@
 use Rattle.std.proofs.Common.{rules, ◌≡◌, ℕ, ◌+◌, ◌<◌, List, Some, None, Option, sym, refl, ap, ◌∙◌, subst}
 use Rattle.layout.specs.declared.sizes.Sizes.{Sizes}
 use Rattle.layout.specs.declared.names.Kind.{Kind}
-use Rattle.layout.specs.declared.names.Kind.TheVariants.{Vertex, Edge}
+use Rattle.layout.specs.declared.names.Kind.TheVariants.{Vertex}
 use Rattle.layout.specs.declared.names.Field.{Field}
 use Rattle.layout.specs.declared.names.Field.TheVariants.{Ins, Del}
 use Rattle.layout.specs.declared.names.Cell.{Cell}
@@ -12,7 +12,6 @@ use Rattle.places.specs.declared.place.Bound.{Bound}
 use Rattle.places.specs.declared.place.Side.{Side}
 use Rattle.places.specs.declared.place.Side.TheVariants.{Source, Target}
 use Rattle.places.specs.declared.place.Change.{Change}
-use Rattle.places.specs.declared.place.Change.TheVariants as change
 use Rattle.places.specs.declared.place.Stage.TheVariants as stage
 use Rattle.places.specs.declared.place.Purpose.{Purpose}
 use Rattle.places.specs.declared.place.Purpose.TheVariants as purpose
@@ -24,13 +23,13 @@ use Rattle.places.specs.Marks.{pending}
 use Rattle.places.specs.Private.{link_kind}
 use Rattle.places.specs.Touches.{side_row, look_kind, change_head, change_kind, job_kind, settled_field, link_touch, touch_of}
 use Rattle.stepper.specs.States.{State}
-use Rattle.stepper.specs.Effects.{put, bound, filled, cells_after}
+use Rattle.stepper.specs.Effects.{filled, cells_after}
 use Rattle.stepper.specs.Turns.{worker_at, cell_at, spare_for}
 use Rattle.laws.specs.Fits.{Linked, FitBound, FitChange, FitPurpose, FitPlace}
-use Rattle.laws.specs.Changes.{OfRow, next_own, number_in, Changes, Changes.keeps, Changes.ticks, Changes.links, Changes.stamps, Changes.ends, Changes.fills}
+use Rattle.laws.specs.Changes.{next_own, number_in, Changes, Changes.keeps, Changes.ticks, Changes.links, Changes.stamps, Changes.ends, Changes.fills}
 use Rattle.laws.proofs.Heads.{change_named}
-use Rattle.laws.proofs.Puts.{Enough, enough_set, put_at, swap_at, raise_at}
-use Rattle.laws.proofs.Fills.{fill_at, enough_filled}
+use Rattle.laws.proofs.Puts.{Enough, enough_set, swap_at, raise_at}
+use Rattle.laws.proofs.Fills.{fill_at, head_filled, enough_filled}
 use Rattle.laws.proofs.Owned.{linked_row, next_own_lem}
 
 -- the field that is settled is of a linked row
@@ -64,17 +63,13 @@ module _ (s : State) (w : ℕ) (c : Cell) (d : Change) (h : ℕ) (at : (worker_a
   abbrev P : ℕ → Type 0
   P y = Changes s w c (number_in s c) y
 
-  -- the head that is swapped is as it was before the row was filled
-  head_same : (r : ℕ) → IsRow s.sizes (change_kind d) r → cell_at s.sizes (filled s.sizes s.cells d h r) (cell.Head (change_head d)) ≡ number_in s (cell.Head (change_head d))
-  head_same r n = fill_at s.sizes s.cells d h r n l (λ y. y ≡ number_in s (cell.Head (change_head d))) (cell.Head (change_head d)) (change_named s d f) (λ b y. absurd b) refl
-
   linked_at : (r : ℕ) → next_own s w (change_kind d) ≡ Some r → Changes s w c (number_in s c) (cell_at s.sizes (cells_after s.sizes s.cells (touch.Link d h r)) c)
   linked_at r q =
       let z = s.sizes in
       let n : IsRow s.sizes (change_kind d) r = (next_own_lem s w (change_kind d) r q).0 in
       swap_at z P (filled z s.cells d h r) (cell.Head (change_head d)) c h r m (change_named s d f) (enough_filled z s.cells d h r l)
       (λ e v.
-      let x : number_in s c ≡ h = ap (number_in s) e ∙ sym (head_same r n) ∙ v in
+      let x : number_in s c ≡ h = ap (number_in s) e ∙ sym (head_filled s.sizes s.cells d h r n l (change_head d) (change_named s d f)) ∙ v in
       links d (subst (λ y. (worker_at s w).place ≡ place.Link d y) (sym x) at) e q)
       (fill_at z s.cells d h r n l P c m (λ o y. fills (change_kind d) r q o) (keeps refl))
 
