@@ -1,7 +1,7 @@
 -- A begin keeps what every run keeps.
-use Rattle.std.proofs.Common.{◌≡◌, ℕ, ◌<◌, ◌≤◌, Bool, true, false, cond, not, ◌&&◌, eqb, ltb, leb, get_or, Ok, Err, Result, sym, refl, ap, ◌∙◌, subst, ⊎_elim, arith}
-use Rattle.std.proofs.lemmas.List.{length-set, get_or-set_same, get_or-set_other}
-use Rattle.std.proofs.lemmas.Bool.{cases_eq, cases_lt, ltb-true, le-leb, lt-leb, ne_eqb, eq-eqb, and_parts}
+use Rattle.std.proofs.Common.{rules, ◌≡◌, ℕ, ◌<◌, Bool, true, false, cond, ltb, Ok, Err, Result, refl, subst, arith}
+use Rattle.std.proofs.lemmas.List.{length-set}
+use Rattle.std.proofs.lemmas.Bool.{ltb-true, and_parts}
 use Rattle.codes.specs.declared.refusal.Refusal.{Refusal}
 use Rattle.codes.specs.declared.refusal.Refusal.TheVariants.{NoSuchWorker, WorkerBusy, NoSuchCall, KeyOutside, WeightOutside}
 use Rattle.layout.specs.declared.names.Kind.{Kind}
@@ -20,7 +20,13 @@ use Rattle.stepper.specs.Workers.{nobody, linked_of}
 use Rattle.stepper.specs.Requests.{is_idle, page_free, begun_as, begun, state_begun}
 use Rattle.laws.specs.Fits.{Linked, FitPlace}
 use Rattle.laws.specs.Sound.{Sound}
+use Rattle.laws.proofs.Puts.{set_each}
 use Rattle.laws.proofs.Grows.{Later, row_later, place_later}
+use Rattle.laws.proofs.Served.{QueueFits}
+
+ok_if : {X E : Type 0} (t : Bool) (r : Result X E) (e : E) (x : X) → cond t r (Err e) ≡ Ok x → (t ≡ true) × (r ≡ Ok x)
+ok_if true r e x h = (refl, h)
+ok_if false r e x h = absurd cc
 
 -- a call that is accepted names keys of the opening
 module _ (s : State) (b : Begin) where
@@ -28,56 +34,25 @@ module _ (s : State) (b : Begin) where
   n = s.sizes.keys
 
   named_fits : keys_fit n b ≡ true → FitPlace s (place_first (call_named b))
-  named_fits k =
-      ⊎_elim
-      (λ (l : b.call < 4).
-      let a : leb b.call 3 ≡ true = le-leb b.call 3 (omega arith) in
-      let c : leb 4 b.call ≡ false = lt-leb 4 b.call (omega arith) in
-      let d : eqb b.call 7 ≡ false = ne_eqb b.call 7 (omega arith) in
-      let f : b.from < n = ltb-true b.from n (rw (c, d) at k) in
-      rw a f)
-      (λ (l : 4 ≤ b.call).
-      let a : leb b.call 3 ≡ false = lt-leb b.call 3 (omega arith) in
-      let c : leb 4 b.call ≡ true = le-leb 4 b.call (omega arith) in
-      ⊎_elim
-      (λ (m : b.call < 7).
-      let d : leb b.call 6 ≡ true = le-leb b.call 6 (omega arith) in
-      let p = and_parts (ltb b.from n) (ltb b.to n && not (eqb b.from b.to)) (rw (c, d) at k) in
-      let q = and_parts (ltb b.to n) (not (eqb b.from b.to)) p.1 in
-      rw (a, d) (ltb-true b.from n p.0, ltb-true b.to n q.0))
-      (λ (m : 7 ≤ b.call).
-      let d : leb b.call 6 ≡ false = lt-leb b.call 6 (omega arith) in
-      ⊎_elim
-      (λ (e : b.call ≡ 7). let g : eqb b.call 7 ≡ true = eq-eqb b.call 7 e in rw (a, d, g) tt)
-      (λ (e : b.call ≡ 7 → ⊥).
-      let g : eqb b.call 7 ≡ false = ne_eqb b.call 7 e in
-      let f : b.from < n = ltb-true b.from n (rw (c, d, g) at k) in
-      rw (a, d, g) f)
-      (cases_eq b.call 7))
-      (cases_lt b.call 7))
-      (cases_lt b.call 4)
+  named_fits k = search (rules, ltb-true, and_parts)
 
-  called : (x y v : Bool) (c : Call) → y ≡ keys_fit n b → cond x (cond y (cond v (Ok (call_named b)) (Err WeightOutside)) (Err KeyOutside)) (Err NoSuchCall) ≡ Ok c → FitPlace s (place_first c)
-  called true true true c e f = let g : call_named b ≡ c = cc in subst (λ q. FitPlace s (place_first q)) g (named_fits (sym e))
-  called true true false c e f = let z : ◌≡◌ {A = ℕ} 0 1 = cc in absurd (omega arith)
-  called true false v c e f = let z : ◌≡◌ {A = ℕ} 0 1 = cc in absurd (omega arith)
-  called false y v c e f = let z : ◌≡◌ {A = ℕ} 0 1 = cc in absurd (omega arith)
+  called : (c : Call) → call_of n b ≡ Ok c → FitPlace s (place_first c)
+  called c e =
+      let known = ok_if (between 1 b.call 8) _ NoSuchCall c e in
+      let keys = ok_if (keys_fit n b) _ KeyOutside c known.1 in
+      let weight = ok_if (weight_fits b) _ WeightOutside c keys.1 in
+      let g : call_named b ≡ c = cc in
+      subst (λ q. FitPlace s (place_first q)) g (named_fits keys.0)
 
   free_same : (p : PageState) (r : Result Call Refusal) (c : Call) → page_free p r ≡ Ok c → r ≡ Ok c
-  free_same page.Unfinished r c e = e
-  free_same page.Finished r c e = e
-  free_same page.Out (Err q) c e = let z : ◌≡◌ {A = ℕ} 0 1 = cc in absurd (omega arith)
-  free_same page.Out (Ok (call.Vertex o i)) c e = e
-  free_same page.Out (Ok (call.Edge o q)) c e = e
-  free_same page.Out (Ok (call.Survey v)) c e = let z : ◌≡◌ {A = ℕ} 0 1 = cc in absurd (omega arith)
+  free_same page.Out (Ok (call.Survey v)) c e = absurd cc
+  free_same p r c e = e
 
-  accepted : (x y : Bool) (c : Call) → x ≡ ltb b.worker s.sizes.workers → cond x (cond y (page_free (worker_at s b.worker).page (call_of n b)) (Err WorkerBusy)) (Err NoSuchWorker) ≡ Ok c → (b.worker < s.sizes.workers) × FitPlace s (place_first c)
-  accepted true true c e f = (
-    ltb-true b.worker s.sizes.workers (sym e),
-    called (between 1 b.call 8) (keys_fit n b) (weight_fits b) c refl (free_same (worker_at s b.worker).page (call_of n b) c f),
-  )
-  accepted true false c e f = let z : ◌≡◌ {A = ℕ} 0 1 = cc in absurd (omega arith)
-  accepted false y c e f = let z : ◌≡◌ {A = ℕ} 0 1 = cc in absurd (omega arith)
+  accepted : (c : Call) → begun_as s b ≡ Ok c → (b.worker < s.sizes.workers) × FitPlace s (place_first c)
+  accepted c e =
+      let there = ok_if (ltb b.worker s.sizes.workers) _ NoSuchWorker c e in
+      let idle = ok_if (is_idle (worker_at s b.worker).place) _ WorkerBusy c there.1 in
+      (ltb-true b.worker s.sizes.workers there.0, called c (free_same (worker_at s b.worker).page (call_of n b) c idle.1))
 
   begun_count : (v : Worker) (c : Call) (k : Kind) → linked_of (begun v c) k ≡ linked_of v k
   begun_count v c Vertex = refl
@@ -91,20 +66,14 @@ module _ (s : State) (b : Begin) where
     t = state_begun s b.worker (Ok c)
 
     fits : (w < s.sizes.workers) × FitPlace s (place_first c)
-    fits = accepted (ltb w s.sizes.workers) (is_idle (worker_at s w).place) c refl e
+    fits = accepted c e
 
-    pub own_begun : worker_at t w ≡ begun (worker_at s w) c
-    own_begun = get_or-set_same s.workers w (begun (worker_at s w) c) nobody (omega (arith, z.table, fits.0))
-
-    pub other_begun : (v : ℕ) → ¬ (v ≡ w) → worker_at t v ≡ worker_at s v
-    other_begun v m = get_or-set_other s.workers w v (begun (worker_at s w) c) nobody m
+    -- each record after the begin
+    pub begun_each : (P : ℕ → Worker → Type 0) → P b.worker (begun (worker_at s b.worker) c) → ((v : ℕ) → P v (worker_at s v)) → (v : ℕ) → P v (worker_at (state_begun s b.worker (Ok c)) v)
+    begun_each P here there = set_each P s.workers w (begun (worker_at s w) c) nobody (omega (arith, z.table, fits.0)) here (λ v m. there v)
 
     count_same : (v : ℕ) (k : Kind) → linked_of (worker_at t v) k ≡ linked_of (worker_at s v) k
-    count_same v k =
-        ⊎_elim
-        (λ (q : v ≡ w). subst (λ u. linked_of (worker_at t u) k ≡ linked_of (worker_at s u) k) (sym q) (ap (λ u. linked_of u k) own_begun ∙ begun_count (worker_at s w) c k))
-        (λ (m : v ≡ w → ⊥). ap (λ u. linked_of u k) (other_begun v m))
-        (cases_eq v w)
+    count_same v k = begun_each (λ u r. linked_of r k ≡ linked_of (worker_at s u) k) (begun_count (worker_at s w) c k) (λ u. refl) v
 
     later_begun : Later s t
     later_begun = record { sizes = refl; linked = λ v k. omega (arith, count_same v k); some = λ h m p. p }
@@ -112,22 +81,12 @@ module _ (s : State) (b : Begin) where
     pub was : (k : Kind) (r : ℕ) → Linked t k r → Linked s k r
     was k r l = record { owner = l.owner; place = l.place; before = subst (λ m. l.place < m) (count_same l.owner k) l.before; is = l.is }
 
-    begin_sound : Sound t
+    pub begin_sound : Sound t
     begin_sound = record {
       cells = z.cells;
       table = simp length-set z.table;
       heads = λ h m. row_later s t later_begun _ _ (z.heads h m);
       olders = λ k r l. row_later s t later_begun k _ (z.olders k r (was k r l));
-      places = λ v l. ⊎_elim
-          (λ (q : v ≡ w). subst (λ u. FitPlace t (worker_at t u).place) (sym q) (subst (λ u. FitPlace t u.place) (sym own_begun) (place_later s t later_begun (place_first c) fits.1)))
-          (λ (m : v ≡ w → ⊥). subst (λ u. FitPlace t u.place) (sym (other_begun v m)) (place_later s t later_begun (worker_at s v).place (z.places v l)))
-          (cases_eq v w);
-      queues = λ v i l. ⊎_elim
-          (λ (q : v ≡ w). subst (λ u. get_or (worker_at t u).book.queue i 0 < s.sizes.keys) (sym q) (subst (λ u. get_or u.book.queue i 0 < s.sizes.keys) (sym own_begun) (z.queues w i fits.0)))
-          (λ (m : v ≡ w → ⊥). subst (λ u. get_or u.book.queue i 0 < s.sizes.keys) (sym (other_begun v m)) (z.queues v i l))
-          (cases_eq v w);
+      places = begun_each (λ v u. v < s.sizes.workers → FitPlace t u.place) (λ _. place_later s t later_begun (place_first c) fits.1) (λ v l. place_later s t later_begun (worker_at s v).place (z.places v l));
+      queues = λ v i l. begun_each (λ v u. v < s.sizes.workers → QueueFits s.sizes.keys u.book) (λ l i. z.queues w i l) (λ v l i. z.queues v i l) v l i;
     }
-
-  pub stepped_begin : Sound s → (r : Result Call Refusal) → begun_as s b ≡ r → Sound (state_begun s b.worker r)
-  stepped_begin z (Ok c) e = begin_sound z c e
-  stepped_begin z (Err q) e = z

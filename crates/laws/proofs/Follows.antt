@@ -1,107 +1,69 @@
 -- The sorts of what follows a place: only a link turn links, only a raise raises, and only a walk's own place ends that walk.
-use Rattle.std.proofs.Common.{◌≡◌, ℕ, Bool, true, false, cond, eqb, refl}
-use Rattle.codes.specs.declared.answer.Answer.TheVariants.{RowsSpent, ClockSpent}
+use Rattle.std.proofs.Common.{rules, ◌≡◌, ℕ, Bool, true, false, Some, None, Option, refl}
+use Rattle.layout.specs.declared.names.Field.TheVariants.{Ins, Del}
+use Rattle.places.specs.declared.place.Side.TheVariants.{Source}
+use Rattle.places.specs.declared.place.Survey.{Survey}
 use Rattle.places.specs.declared.place.Change.{Change}
 use Rattle.places.specs.declared.place.Walk.{Walk}
 use Rattle.places.specs.declared.place.Hand.{Hand}
-use Rattle.places.specs.declared.place.Got.{Got}
 use Rattle.places.specs.declared.place.Stage.{Stage}
 use Rattle.places.specs.declared.place.Stage.TheVariants as stage
 use Rattle.places.specs.declared.place.Purpose.{Purpose}
 use Rattle.places.specs.declared.place.Purpose.TheVariants as purpose
 use Rattle.places.specs.declared.place.Place.{Place}
 use Rattle.places.specs.declared.place.Place.TheVariants as place
-use Rattle.places.specs.declared.place.Out.TheVariants.{Go, Done}
 use Rattle.places.specs.declared.place.Next.{Next}
 use Rattle.places.specs.declared.place.Next.TheVariants as next
-use Rattle.places.specs.Marks.{mark_of, pending}
-use Rattle.places.specs.Rules.{first, absent, lost_link}
-use Rattle.places.specs.Walks.{above, walked_ins}
-use Rattle.places.specs.Nexts.{settle_on, settled, settling, next_of}
+use Rattle.places.specs.Walks.{walked_ins}
+use Rattle.places.specs.Nexts.{number_of, link_done, raise_done, settled, next_of}
 
--- the walk that a purpose, or a place, belongs to
-abbrev pub InWalk : Purpose → Walk → Type 0
-InWalk (purpose.LookIns l r) k = ⊥
-InWalk (purpose.LookDel l r) k = ⊥
-InWalk (purpose.Own g c r) k = ⊥
-InWalk (purpose.LostDel c r) k = ⊥
-InWalk (purpose.WonIns i r) k = ⊥
-InWalk (purpose.BindAgain o p x d) k = ⊥
-InWalk (purpose.AgainSource o p x d f) k = ⊥
-InWalk (purpose.AgainTarget o p x d f) k = ⊥
-InWalk (purpose.CompareSource p x d f e n) k = ⊥
-InWalk (purpose.CompareTarget p x d f e n) k = ⊥
-InWalk (purpose.WalkIns j r) k = j ≡ k
-InWalk (purpose.WalkDel j r) k = j ≡ k
-
+-- the walk that a place belongs to
 abbrev pub AtWalk : Place → Walk → Type 0
-AtWalk place.Idle k = ⊥
-AtWalk (place.Head l) k = ⊥
-AtWalk (place.Settle st p) k = InWalk p k
-AtWalk (place.Link c h) k = ⊥
-AtWalk (place.End c r) k = ⊥
-AtWalk (place.LostHead i) k = ⊥
-AtWalk (place.Raise v) k = ⊥
+AtWalk (place.Settle st (purpose.Walk f j r)) k = j ≡ k
 AtWalk (place.WalkHead j) k = j ≡ k
 AtWalk (place.WalkOlder j r) k = j ≡ k
+AtWalk p k = ⊥
 
 -- the link turn that linked row r for change c
-pub record LinkTurn (p : Place) (h : Hand) (g : Got) (c : Change) (r : ℕ) : Type 0 where
+pub record LinkTurn (p : Place) (h : Hand) (c : Change) (r : ℕ) : Type 0 where
   pub over : ℕ
   pub place : p ≡ place.Link c over
-  pub row : r ≡ h.spare
-  pub some : eqb h.spare 0 ≡ false
-  pub done : g.done ≡ true
+  pub spare : h.spare ≡ Some r
 
-abbrev pub Follows : Place → Hand → Got → Next → Type 0
-Follows p h g (next.Out o) = Unit {0}
-Follows p h g (next.Linked c r) = LinkTurn p h g c r
-Follows p h g (next.Raised v t) = p ≡ place.Raise v
-Follows p h g (next.Walked k r) = AtWalk p k
+abbrev pub Follows : Place → Hand → Next → Type 0
+Follows p h (next.Out o) = Unit {0}
+Follows p h (next.Linked c r) = LinkTurn p h c r
+Follows p h (next.Raised v t) = p ≡ place.Raise v
+Follows p h (next.Walked k r) = AtWalk p k
 
-module _ (p : Place) (h : Hand) (g : Got) where
-  follows_cond : (b : Bool) (x y : Next) → Follows p h g x → Follows p h g y → Follows p h g (cond b x y)
-  follows_cond true x y f e = f
-  follows_cond false x y f e = e
+follows_ins : (p : Place) (h : Hand) (k : Walk) (r n : ℕ) → AtWalk p k → Follows p h (walked_ins k r h n)
+follows_ins p h k r n a = search rules
 
-  follows_ins : (k : Walk) (r n : ℕ) → AtWalk p k → Follows p h g (walked_ins k r h n)
-  follows_ins k r n a =
-      let on : Next = next.Out (Go (place.WalkOlder k h.older)) in
-      follows_cond (above h.t (mark_of n)) (cond (eqb h.older 0) (next.Walked k 0) on) (next.Out (first (purpose.WalkDel k r)))
-      (follows_cond (eqb h.older 0) (next.Walked k 0) on a tt) tt
+follows_settled : (st : Stage) (q : Purpose) (h : Hand) (n : ℕ) → Follows (place.Settle st q) h (settled q h n)
+follows_settled st (purpose.Look Ins l r) h n = tt
+follows_settled st (purpose.Again Source o b f) h n = tt
+follows_settled st (purpose.Compare Source b f e x) h n = tt
+follows_settled st (purpose.Walk Ins k r) h n = follows_ins (place.Settle st (purpose.Walk Ins k r)) h k r n refl
+follows_settled st (purpose.Walk Del k r) h n = refl
+follows_settled st q h n = tt
 
-  follows_settled : (q : Purpose) (n : ℕ) → ((k : Walk) → InWalk q k → AtWalk p k) → Follows p h g (settled q h n)
-  follows_settled (purpose.LookIns l r) n a = tt
-  follows_settled (purpose.LookDel l r) n a = tt
-  follows_settled (purpose.Own f c r) n a = tt
-  follows_settled (purpose.LostDel c r) n a = tt
-  follows_settled (purpose.WonIns i r) n a = tt
-  follows_settled (purpose.BindAgain o q x d) n a = tt
-  follows_settled (purpose.AgainSource o q x d f) n a = tt
-  follows_settled (purpose.AgainTarget o q x d f) n a = tt
-  follows_settled (purpose.CompareSource q x d f e m) n a = tt
-  follows_settled (purpose.CompareTarget q x d f e m) n a = tt
-  follows_settled (purpose.WalkIns k r) n a = follows_ins k r n (a k refl)
-  follows_settled (purpose.WalkDel k r) n a = a k refl
+follows_link : (c : Change) (o : ℕ) (h : Hand) (spare : Option ℕ) (done : Bool) → h.spare ≡ spare → Follows (place.Link c o) h (link_done c spare done)
+follows_link c o h None done e = tt
+follows_link c o h (Some r) true e = record { over = o; place = refl; spare = e }
+follows_link c o h (Some r) false e = tt
 
-  follows_settling : (st : Stage) (q : Purpose) (n : ℕ) → ((k : Walk) → InWalk q k → AtWalk p k) → Follows p h g (settling st q h n)
-  follows_settling stage.First q n a = follows_cond (eqb n pending) (settle_on stage.Clock q) (settled q h n) tt (follows_settled q n a)
-  follows_settling stage.Clock q n a = tt
-  follows_settling (stage.Swap m) q n a = tt
-  follows_settling stage.Again q n a = follows_settled q n a
+follows_raise : (v : Survey) (h : Hand) (g : Option ℕ) → Follows (place.Raise v) h (raise_done v g)
+follows_raise v h None = tt
+follows_raise v h (Some t) = refl
 
-  follows_link : (c : Change) (b : ℕ) (s d : Bool) → p ≡ place.Link c b → eqb h.spare 0 ≡ s → g.done ≡ d → Follows p h g (cond s (next.Out (Done RowsSpent)) (cond d (next.Linked c h.spare) (next.Out (lost_link c))))
-  follows_link c b true d e f q = tt
-  follows_link c b false true e f q = record { over = b; place = e; row = refl; some = f; done = q }
-  follows_link c b false false e f q = tt
-
-pub follows : (p : Place) (h : Hand) (g : Got) → Follows p h g (next_of p h g)
-follows place.Idle h g = tt
-follows (place.Head l) h g = follows_cond (place.Head l) h g (eqb g.number 0) (next.Out (absent l 0)) (next.Out (first (purpose.LookIns l g.number))) tt tt
-follows (place.Settle st q) h g = follows_settling (place.Settle st q) h g st q g.number (λ k a. a)
-follows (place.Link c b) h g = follows_link (place.Link c b) h g c b (eqb h.spare 0) g.done refl refl refl
-follows (place.End c r) h g = tt
-follows (place.LostHead i) h g = tt
-follows (place.Raise v) h g = follows_cond (place.Raise v) h g g.done (next.Raised v g.number) (next.Out (Done ClockSpent)) refl tt
-follows (place.WalkHead k) h g = follows_cond (place.WalkHead k) h g (eqb g.number 0) (next.Walked k 0) (next.Out (first (purpose.WalkIns k g.number))) refl tt
-follows (place.WalkOlder k r) h g = follows_ins (place.WalkOlder k r) h g k r g.number refl
+pub follows : (p : Place) (h : Hand) (g : Option ℕ) → Follows p h (next_of p h g)
+follows (place.Head l) h g = search rules
+follows (place.Settle stage.First q) h g = search (rules, follows_settled)
+follows (place.Settle stage.Clock q) h g = tt
+follows (place.Settle (stage.Swap n) q) h g = tt
+follows (place.Settle stage.Again q) h g = follows_settled stage.Again q h (number_of g)
+follows (place.Link c o) h g = follows_link c o h h.spare _ refl
+follows (place.Raise v) h g = follows_raise v h g
+follows (place.WalkHead k) h g = search rules
+follows (place.WalkOlder k r) h g = follows_ins (place.WalkOlder k r) h k r (number_of g) refl
+follows p h g = tt

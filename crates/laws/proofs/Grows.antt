@@ -1,5 +1,5 @@
 -- What a turn leaves linked stays linked, and a head that is not none stays so.
-use Rattle.std.proofs.Common.{◌≡◌, ℕ, ◌<◌, ◌≤◌, Some, sym, subst, inl, inr, arith}
+use Rattle.std.proofs.Common.{◌≡◌, ℕ, ◌<◌, ◌≤◌, Some, Ok, Err, Result, sym, subst, inl, inr, arith}
 use Rattle.layout.specs.declared.names.Kind.{Kind}
 use Rattle.layout.specs.declared.names.Kind.TheVariants.{Vertex}
 use Rattle.layout.specs.declared.names.Head.{Head}
@@ -9,14 +9,14 @@ use Rattle.layout.specs.declared.sizes.Sizes.{Sizes}
 use Rattle.layout.specs.Rows.{row_at}
 use Rattle.layout.specs.Layout.{Named}
 use Rattle.places.specs.declared.place.Pair.{Pair}
+use Rattle.places.specs.declared.place.Bound.{Bound}
 use Rattle.places.specs.declared.place.Look.{Look}
 use Rattle.places.specs.declared.place.Look.TheVariants as look
 use Rattle.places.specs.declared.place.Change.{Change}
 use Rattle.places.specs.declared.place.Change.TheVariants as change
-use Rattle.places.specs.declared.place.Found.{Found}
-use Rattle.places.specs.declared.place.Found.TheVariants.{Miss, Hit}
 use Rattle.places.specs.declared.place.Survey.{Survey}
 use Rattle.places.specs.declared.place.Survey.TheVariants.{Snapshot, Reach}
+use Rattle.places.specs.declared.place.Leg.{Leg}
 use Rattle.places.specs.declared.place.Job.{Job}
 use Rattle.places.specs.declared.place.Job.TheVariants as job
 use Rattle.places.specs.declared.place.Purpose.{Purpose}
@@ -27,7 +27,7 @@ use Rattle.places.specs.Touches.{head_kind, look_head, change_head}
 use Rattle.stepper.specs.States.{State}
 use Rattle.stepper.specs.Turns.{worker_at}
 use Rattle.stepper.specs.Workers.{linked_of}
-use Rattle.laws.specs.Fits.{Linked, IsKey, Held, RowOrNone, HeldOrNone, FitPair, Bound, pair_head, FitLook, FitChange, FitFound, FitSurvey, FitJob, FitPurpose, FitPlace}
+use Rattle.laws.specs.Fits.{Linked, IsKey, Held, RowOrNone, HeldOrNone, FitPair, FitBound, pair_head, FitLook, FitChange, FitFound, FitSurvey, FitLeg, FitJob, FitPurpose, FitPlace}
 use Rattle.laws.specs.Changes.{number_in}
 use Rattle.laws.proofs.Heads.{look_named, change_named}
 
@@ -63,46 +63,45 @@ module _ (s t : State) (l : Later s t) where
   pair_later : (p : Pair) → FitPair s p → FitPair t p
   pair_later p f = (key_later p.from f.0, key_later p.to f.1)
 
-  bound_later : (p : Pair) (x d : ℕ) → Bound s p x d → Bound t p x d
-  bound_later p x d b = record { keys = pair_later p b.keys; source = linked_later Vertex x b.source; target = linked_later Vertex d b.target }
+  bound_later : (b : Bound) → FitBound s b → FitBound t b
+  bound_later b f = record { keys = pair_later b.pair f.keys; source = linked_later Vertex b.source f.source; target = linked_later Vertex b.target f.target }
 
   look_later : (k : Look) → FitLook s k → FitLook t k
   look_later (look.Vertex o i) f = key_later i f
   look_later (look.Source o p) f = pair_later p f
-  look_later (look.Target o p x) f = (pair_later p f.0, linked_later Vertex x f.1)
-  look_later (look.Edge o p x d) f = bound_later p x d f
+  look_later (look.Target o p r) f = (pair_later p f.0, linked_later Vertex r f.1)
+  look_later (look.Edge o b) f = bound_later b f
 
   pub change_later : (c : Change) → FitChange s c → FitChange t c
   change_later (change.Vertex i) f = key_later i f
-  change_later (change.Edge p x d) f = bound_later p x d f
+  change_later (change.Edge b) f = bound_later b f
 
-  found_later : (p : Pair) (f : Found) → FitPair s p → FitFound s p f → FitFound t p f
-  found_later p (Miss h) n f = none_later (pair_head p) h n f
-  found_later p (Hit e) n f = held_later (pair_head p) e n f
+  found_later : (p : Pair) (f : Result ℕ ℕ) → FitPair s p → FitFound s p f → FitFound t p f
+  found_later p (Ok e) n f = held_later (pair_head p) e n f
+  found_later p (Err h) n f = none_later (pair_head p) h n f
 
   survey_later : (v : Survey) → FitSurvey s v → FitSurvey t v
   survey_later Snapshot f = tt
   survey_later (Reach i) f = key_later i f
 
+  leg_later : (l : Leg) → FitLeg s l → FitLeg t l
+  leg_later l f = (key_later l.from f.0, key_later l.to f.1)
+
   pub job_later : (j : Job) → FitJob s j → FitJob t j
   job_later (job.Key i) f = key_later i f
   job_later (job.Start i) f = key_later i f
-  job_later (job.Pair x i j) f = (key_later i f.0, key_later j f.1)
-  job_later (job.Target x i j e) f = (key_later i f.0, key_later j f.1)
+  job_later (job.Pair l) f = leg_later l f
+  job_later (job.Target l e) f = leg_later l f
 
   purpose_later : (p : Purpose) → FitPurpose s p → FitPurpose t p
-  purpose_later (purpose.LookIns k r) f = (look_later k f.0, held_later (look_head k) r (look_named s k f.0) f.1)
-  purpose_later (purpose.LookDel k r) f = (look_later k f.0, held_later (look_head k) r (look_named s k f.0) f.1)
+  purpose_later (purpose.Look g k r) f = (look_later k f.0, held_later (look_head k) r (look_named s k f.0) f.1)
   purpose_later (purpose.Own g c r) f = (change_later c f.0, linked_later _ r f.1)
   purpose_later (purpose.LostDel c r) f = (change_later c f.0, held_later (change_head c) r (change_named s c f.0) f.1)
   purpose_later (purpose.WonIns i r) f = linked_later Vertex r f
-  purpose_later (purpose.BindAgain o p x d) f = bound_later p x d f
-  purpose_later (purpose.AgainSource o p x d g) f = (bound_later p x d f.0, found_later p g f.0.keys f.1)
-  purpose_later (purpose.AgainTarget o p x d g) f = (bound_later p x d f.0, found_later p g f.0.keys f.1)
-  purpose_later (purpose.CompareSource p x d g e n) f = bound_later p x d f
-  purpose_later (purpose.CompareTarget p x d g e n) f = bound_later p x d f
-  purpose_later (purpose.WalkIns k r) f = (job_later k.job f.0, linked_later _ r f.1)
-  purpose_later (purpose.WalkDel k r) f = (job_later k.job f.0, linked_later _ r f.1)
+  purpose_later (purpose.BindAgain o b) f = bound_later b f
+  purpose_later (purpose.Again d o b g) f = (bound_later b f.0, found_later b.pair g f.0.keys f.1)
+  purpose_later (purpose.Compare d b g e x) f = bound_later b f
+  purpose_later (purpose.Walk g k r) f = (job_later k.job f.0, linked_later _ r f.1)
 
   pub place_later : (p : Place) → FitPlace s p → FitPlace t p
   place_later place.Idle f = tt

@@ -14,15 +14,13 @@ use Rattle.laws.specs.Fits.{FitLook, FitChange, FitJob}
 pub look_named : (s : State) (l : Look) → FitLook s l → Named s.sizes (cell.Head (look_head l))
 look_named s (look.Vertex o i) f = f
 look_named s (look.Source o p) f = f.0
-look_named s (look.Target o p x) f = f.0.1
-look_named s (look.Edge o p x d) f = f.keys
+look_named s (look.Target o p r) f = f.0.1
+look_named s (look.Edge o b) f = f.keys
 
 pub change_named : (s : State) (c : Change) → FitChange s c → Named s.sizes (cell.Head (change_head c))
 change_named s (change.Vertex i) f = f
-change_named s (change.Edge p x d) f = f.keys
+change_named s (change.Edge b) f = f.keys
 
 pub job_named : (s : State) (j : Job) → FitJob s j → Named s.sizes (cell.Head (job_head j))
-job_named s (job.Key i) f = f
-job_named s (job.Start i) f = f
-job_named s (job.Pair x i j) f = f
-job_named s (job.Target x i j e) f = f.1
+job_named s (job.Target l e) f = f.1
+job_named s j f = f

@@ -4,6 +4,7 @@ mod Follows
 mod Entries
 mod Owned
 mod Heads
+mod Fills
 mod Touched
 mod Stays
 mod Outs
@@ -13,8 +14,8 @@ mod Counts
 mod LinkTurns
 mod Keeps
 mod Begins
+mod Steps
 mod Runs
-mod Stages
 mod Places
 mod Stamped
 mod Moments

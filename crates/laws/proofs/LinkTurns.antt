@@ -1,175 +1,97 @@
 -- A link turn: whether the swap says yes, and what the new row holds.
-use Rattle.std.proofs.Common.{◌≡◌, ℕ, ◌<◌, Bool, true, false, cond, eqb, ltb, List, length, Some, None, sym, refl, ap, ◌∙◌, subst, arith}
-use Rattle.std.proofs.lemmas.List.{get_or-set_same}
-use Rattle.std.proofs.lemmas.Bool.{eq-eqb, ne_eqb, lt-ltb, both_ways}
+use Rattle.std.proofs.Common.{◌≡◌, ℕ, ◌<◌, Bool, true, false, eqb, List, length, Some, Option, sym, refl, ap, ◌∙◌, arith}
+use Rattle.std.proofs.lemmas.Bool.{eq-eqb, lt-ltb, both_ways}
+use Rattle.std.specs.Bool.{then_some}
+use Rattle.std.specs.Option.{is_some}
 use Rattle.layout.specs.declared.sizes.Sizes.{Sizes}
-use Rattle.layout.specs.declared.names.Kind.{Kind}
 use Rattle.layout.specs.declared.names.Field.{Field}
-use Rattle.layout.specs.declared.names.Field.TheVariants.{Ins, Del}
 use Rattle.layout.specs.declared.names.Cell.{Cell}
 use Rattle.layout.specs.declared.names.Cell.TheVariants as cell
 use Rattle.layout.specs.Layout.{index_of, Named, IsRow}
 use Rattle.layout.proofs.Regions.{index_lt}
 use Rattle.places.specs.declared.place.Change.{Change}
-use Rattle.places.specs.declared.place.Change.TheVariants as change
 use Rattle.places.specs.declared.place.Place.{Place}
 use Rattle.places.specs.declared.place.Place.TheVariants as place
 use Rattle.places.specs.declared.place.Touch.TheVariants as touch
-use Rattle.places.specs.declared.place.Out.TheVariants.{Done}
 use Rattle.places.specs.declared.place.Next.{Next}
 use Rattle.places.specs.declared.place.Next.TheVariants as next
-use Rattle.codes.specs.declared.answer.Answer.TheVariants.{RowsSpent}
-use Rattle.places.specs.Marks.{pending}
 use Rattle.places.specs.Private.{link_kind}
-use Rattle.places.specs.Rules.{lost_link}
-use Rattle.places.specs.Touches.{change_head, change_kind, touch_of}
-use Rattle.places.specs.Nexts.{next_of}
+use Rattle.places.specs.Touches.{change_head, change_kind, link_touch, touch_of}
+use Rattle.places.specs.Nexts.{link_done as next_link, next_of}
 use Rattle.stepper.specs.States.{State}
-use Rattle.stepper.specs.Effects.{put, bound, filled, is_yes, link_done, got_of, cells_after, entered}
+use Rattle.stepper.specs.Effects.{filled, link_done, got_of, cells_after, entered}
 use Rattle.stepper.specs.Turns.{worker_at, cell_at, spare_for, hand_of, next_at, turned}
 use Rattle.stepper.specs.Workers.{followed}
 use Rattle.laws.specs.Fits.{FitChange}
 use Rattle.laws.specs.Changes.{next_own, number_in}
 use Rattle.laws.specs.Stamps.{field_start}
 use Rattle.laws.proofs.Heads.{change_named}
-use Rattle.laws.proofs.Puts.{Enough, enough_set, put_at, swap_at}
+use Rattle.laws.proofs.Puts.{Enough, swap_at}
 use Rattle.laws.proofs.Owned.{next_own_lem}
-use Rattle.laws.proofs.Touched.{enough_filled, fill_at}
-
-put_same : (z : Sizes) (cs : List ℕ) (c : Cell) (v : ℕ) → Named z c → Enough z cs → cell_at z (put z cs c v) c ≡ v
-put_same z cs c v n l = get_or-set_same cs (index_of z c) v 0 (omega (arith, index_lt z c n))
-
--- binding an edge row changes its source, target and weight only
-abbrev Unbound : Cell → Type 0
-Unbound cell.Clock = Unit {0}
-Unbound (cell.Head h) = Unit {0}
-Unbound (cell.Older k r) = Unit {0}
-Unbound (cell.Stamp k f r) = Unit {0}
-Unbound (cell.Source r) = ⊥
-Unbound (cell.Target r) = ⊥
-Unbound (cell.Weight r) = ⊥
-Unbound (cell.PageKey v k) = Unit {0}
-Unbound (cell.PagePair v i j) = Unit {0}
-
-bound_same : (z : Sizes) (cs : List ℕ) (d : Change) (r : ℕ) (c : Cell) → Named z c → Unbound c → IsRow z (change_kind d) r → Enough z cs → cell_at z (bound z cs d r) c ≡ cell_at z cs c
-bound_same z cs (change.Vertex i) r c n u m l = refl
-bound_same z cs (change.Edge p x y) r c n u m l =
-    let P : ℕ → Type 0 = λ v. v ≡ cell_at z cs c in
-    let one : List ℕ = put z cs (cell.Source r) x in
-    let two : List ℕ = put z one (cell.Target r) y in
-    let l₁ : Enough z one = enough_set z cs _ x l in
-    put_at z P two (cell.Weight r) c p.weight n m (enough_set z one _ y l₁) (λ e. absurd (subst Unbound e u))
-    (put_at z P one (cell.Target r) c y n m l₁ (λ e. absurd (subst Unbound e u))
-    (put_at z P cs (cell.Source r) c x n m l (λ e. absurd (subst Unbound e u)) refl))
-
--- what a row that is filled holds
-module _ (z : Sizes) (cs : List ℕ) (d : Change) (h r : ℕ) (n : IsRow z (change_kind d) r) (l : Enough z cs) where
-  abbrev k : Kind
-  k = change_kind d
-
-  abbrev one : List ℕ
-  one = put z cs (cell.Older k r) h
-
-  abbrev two : List ℕ
-  two = put z one (cell.Stamp k Ins r) pending
-
-  abbrev three : List ℕ
-  three = put z two (cell.Stamp k Del r) 0
-
-  enough_one : Enough z one
-  enough_one = enough_set z cs _ h l
-
-  enough_two : Enough z two
-  enough_two = enough_set z one _ pending enough_one
-
-  enough_three : Enough z three
-  enough_three = enough_set z two _ 0 enough_two
-
-  -- older is the head that was read
-  older_filled : cell_at z (filled z cs d h r) (cell.Older (change_kind d) r) ≡ h
-  older_filled =
-      let P : ℕ → Type 0 = λ v. v ≡ h in
-      bound_same z three d r (cell.Older k r) n tt n enough_three
-      ∙ put_at z P two (cell.Stamp k Del r) (cell.Older k r) 0 n n enough_two (λ e. let q : ◌≡◌ {A = ℕ} 0 1 = cc in absurd (omega arith))
-      (put_at z P one (cell.Stamp k Ins r) (cell.Older k r) pending n n enough_one (λ e. let q : ◌≡◌ {A = ℕ} 0 1 = cc in absurd (omega arith))
-      (put_same z cs (cell.Older k r) h n l))
-
-  -- ins is pending, del is 0
-  stamp_filled : (f : Field) → cell_at z (filled z cs d h r) (cell.Stamp (change_kind d) f r) ≡ field_start f
-  stamp_filled Ins =
-      bound_same z three d r (cell.Stamp k Ins r) n tt n enough_three
-      ∙ put_at z (λ v. v ≡ pending) two (cell.Stamp k Del r) (cell.Stamp k Ins r) 0 n n enough_two (λ e. let q : ◌≡◌ {A = ℕ} 0 1 = cc in absurd (omega arith))
-      (put_same z one (cell.Stamp k Ins r) pending n enough_one)
-  stamp_filled Del = bound_same z three d r (cell.Stamp k Del r) n tt n enough_three ∙ put_same z two (cell.Stamp k Del r) 0 n enough_two
+use Rattle.laws.proofs.Fills.{head_filled, enough_filled, older_filled, stamp_filled}
 
 -- what follows at a place
 abbrev next_from : State → ℕ → Place → Next
 next_from s w p = next_of p (hand_of s.sizes s.cells w (worker_at s w) p) (got_of s.sizes s.cells (touch_of p (spare_for s.sizes w (worker_at s w) (link_kind p))))
 
-module _ (s : State) (w : ℕ) (d : Change) (h : ℕ) (l : Enough s.sizes s.cells) (f : FitChange s d) where
+module _ (s : State) (w : ℕ) (d : Change) (h : ℕ) (l : Enough s.sizes s.cells) (f : FitChange s d) (r : ℕ) (own : next_own s w (change_kind d) ≡ Some r) where
   abbrev z : Sizes
   z = s.sizes
-
-  abbrev r : ℕ
-  r = next_own s w (change_kind d)
 
   abbrev top : Cell
   top = cell.Head (change_head d)
 
-  yes_within : (b e : Bool) → b ≡ true → is_yes (cond b (Some e) None) ≡ e
-  yes_within b e t = rw t refl
+  row : IsRow z (change_kind d) r
+  row = (next_own_lem s w (change_kind d) r own).0
 
   -- the swap says yes where the head is still the one that was read
-  pub link_says : 0 < r → link_done z s.cells d h r ≡ eqb (number_in s top) h
-  link_says pos =
+  link_says : link_done z s.cells d h r ≡ eqb (number_in s top) h
+  link_says =
       let n = change_named s d f in
       let c' : List ℕ = filled z s.cells d h r in
       let e : Enough z c' = enough_filled z s.cells d h r l in
       let i : index_of z top < length c' = omega (arith, index_lt z top n) in
-      let same : cell_at z c' top ≡ number_in s top = fill_at z (λ y. y ≡ number_in s top) s.cells d h r top n (next_own_lem s w (change_kind d) pos).0 l (λ b y. absurd b) refl in
-      yes_within (ltb (index_of z top) (length c')) (eqb (cell_at z c' top) h) (lt-ltb (index_of z top) (length c') i) ∙ ap (λ x. eqb x h) same
+      let same : cell_at z c' top ≡ number_in s top = head_filled z s.cells d h r row l (change_head d) n in
+      rw (lt-ltb (index_of z top) (length c') i, same) refl
 
-  got_link : eqb r 0 ≡ false → (got_of z s.cells (touch_of (place.Link d h) r)).done ≡ link_done z s.cells d h r
-  got_link e = rw e refl
+  done_is : (b : Bool) (x : ℕ) → is_some (then_some b x) ≡ b
+  done_is true x = refl
+  done_is false x = refl
+
+  -- what a link turn touches is the worker's next row
+  abbrev got_from : Option ℕ → Option ℕ
+  got_from o = got_of z s.cells (link_touch d h o)
+
+  got_link : is_some (got_from (next_own s w (change_kind d))) ≡ eqb (number_in s top) h
+  got_link = ap (λ o. is_some (got_from o)) own ∙ done_is (link_done z s.cells d h r) h ∙ link_says
 
   -- a lost link: the head is not the one that was read
-  pub lost_differs : 0 < r → (got_of z s.cells (touch_of (place.Link d h) r)).done ≡ false → number_in s top ≡ h → ⊥
-  lost_differs pos e same =
-      let t : eqb (number_in s top) h ≡ true = eq-eqb (number_in s top) h same in
-      both_ways (eqb (number_in s top) h) (sym (link_says pos) ∙ sym (got_link (ne_eqb r 0 (omega arith))) ∙ e) t
+  pub lost_differs : is_some (got_from (next_own s w (change_kind d))) ≡ false → number_in s top ≡ h → ⊥
+  lost_differs e same = both_ways (eqb (number_in s top) h) (sym got_link ∙ e) (eq-eqb (number_in s top) h same)
 
-  cond_linked : (b c : Bool) → b ≡ false → c ≡ true → cond b (next.Out (Done RowsSpent)) (cond c (next.Linked d r) (next.Out (lost_link d))) ≡ next.Linked d r
-  cond_linked b c e g = rw (e, g) refl
+  link_won : (o : Option ℕ) (b : Bool) → o ≡ Some r → b ≡ true → next_link d o b ≡ next.Linked d r
+  link_won o b e g = rw (e, g) refl
 
   -- a link that is won
-  pub won_links : (worker_at s w).place ≡ place.Link d h → 0 < r → number_in s top ≡ h → next_at s w ≡ next.Linked d r
-  won_links e pos same =
-      let zero_no : eqb r 0 ≡ false = ne_eqb r 0 (omega arith) in
-      let done : (got_of z s.cells (touch_of (place.Link d h) r)).done ≡ true = got_link zero_no ∙ link_says pos ∙ eq-eqb (number_in s top) h same in
-      ap (next_from s w) e ∙ cond_linked (eqb r 0) (got_of z s.cells (touch_of (place.Link d h) r)).done zero_no done
+  pub won_links : (worker_at s w).place ≡ place.Link d h → number_in s top ≡ h → next_at s w ≡ next.Linked d r
+  won_links e same = ap (next_from s w) e ∙ link_won (next_own s w (change_kind d)) _ own (got_link ∙ eq-eqb (number_in s top) h same)
 
   -- a link that is won: the cells of the new row hold what they were filled with
-  new_holds : (c : Cell) → Named z c → ¬ (c ≡ top) → (worker_at s w).place ≡ place.Link d h → 0 < r → next_at s w ≡ next.Linked d r → number_in (turned s w) c ≡ cell_at z (filled z s.cells d h r) c
-  new_holds c n apart e pos nx =
+  new_holds : (c : Cell) → Named z c → ¬ (c ≡ top) → (worker_at s w).place ≡ place.Link d h → next_at s w ≡ next.Linked d r → number_in (turned s w) c ≡ cell_at z (filled z s.cells d h r) c
+  new_holds c n apart e nx =
       let cells_from : Place → List ℕ = λ p. cells_after z s.cells (touch_of p (spare_for z w (worker_at s w) (link_kind p))) in
-      let zero_no : eqb r 0 ≡ false = ne_eqb r 0 (omega arith) in
       let link : List ℕ = cells_after z s.cells (touch.Link d h r) in
-      let touched : cells_from (worker_at s w).place ≡ cells_after z s.cells (cond (eqb r 0) touch.Nothing (touch.Link d h r)) = ap cells_from e in
-      let linked : cells_after z s.cells (cond (eqb r 0) touch.Nothing (touch.Link d h r)) ≡ link = ap (λ b. cells_after z s.cells (cond b touch.Nothing (touch.Link d h r))) zero_no in
+      let linked : cells_from (worker_at s w).place ≡ link = ap cells_from e ∙ ap (λ o. cells_after z s.cells (link_touch d h o)) own in
       let value : cell_at z link c ≡ cell_at z (filled z s.cells d h r) c =
       swap_at z (λ y. y ≡ cell_at z (filled z s.cells d h r) c) (filled z s.cells d h r) top c h r n (change_named s d f) (enough_filled z s.cells d h r l)
       (λ q v. absurd (apart q)) refl in
       ap (λ x. cell_at z (entered z w (cells_from (worker_at s w).place) (followed z.keys (worker_at s w) (hand_of z s.cells w (worker_at s w) (worker_at s w).place) x).entry) c) nx
-      ∙ ap (λ (x : List ℕ). cell_at z x c) (touched ∙ linked) ∙ value
+      ∙ ap (λ (x : List ℕ). cell_at z x c) linked ∙ value
 
   -- the new row is over the head that was read
-  pub new_older : (worker_at s w).place ≡ place.Link d h → 0 < r → next_at s w ≡ next.Linked d r → number_in (turned s w) (cell.Older (change_kind d) r) ≡ h
-  new_older e pos nx =
-      let n = (next_own_lem s w (change_kind d) pos).0 in
-      new_holds (cell.Older (change_kind d) r) n (λ q. let x : ◌≡◌ {A = ℕ} 0 1 = cc in omega arith) e pos nx ∙ older_filled z s.cells d h r n l
+  pub new_older : (worker_at s w).place ≡ place.Link d h → next_at s w ≡ next.Linked d r → number_in (turned s w) (cell.Older (change_kind d) r) ≡ h
+  new_older e nx = new_holds (cell.Older (change_kind d) r) row (λ q. cc) e nx ∙ older_filled z s.cells d h r row l
 
   -- its ins is pending, its del 0
-  pub new_stamp : (g : Field) → (worker_at s w).place ≡ place.Link d h → 0 < r → next_at s w ≡ next.Linked d r → number_in (turned s w) (cell.Stamp (change_kind d) g r) ≡ field_start g
-  new_stamp g e pos nx =
-      let n = (next_own_lem s w (change_kind d) pos).0 in
-      new_holds (cell.Stamp (change_kind d) g r) n (λ q. let x : ◌≡◌ {A = ℕ} 0 1 = cc in omega arith) e pos nx ∙ stamp_filled z s.cells d h r n l g
+  pub new_stamp : (g : Field) → (worker_at s w).place ≡ place.Link d h → next_at s w ≡ next.Linked d r → number_in (turned s w) (cell.Stamp (change_kind d) g r) ≡ field_start g
+  new_stamp g e nx = new_holds (cell.Stamp (change_kind d) g r) row (λ q. cc) e nx ∙ stamp_filled z s.cells d h r row l g

@@ -1,6 +1,6 @@
 -- Where a stamp comes from: the clock had its number while the field was pending.
-use Rattle.std.proofs.Common.{◌≡◌, ℕ, ◌<◌, ◌≤◌, ◌⊎◌, List, [], ◌∷◌, length, Some, None, Ok, Err, Option, Result, sym, refl, ap, ◌∙◌, subst, inl, inr, arith}
-use Rattle.codes.specs.declared.refusal.Refusal.{Refusal}
+use Rattle.std.proofs.Common.{◌≡◌, ℕ, ◌<◌, ◌≤◌, ◌⊎◌, List, [], ◌∷◌, length, Some, None, Ok, Option, sym, refl, ap, ◌∙◌, subst, inl, inr, arith}
+use Rattle.codes.specs.declared.answer.Answer.{Answer}
 use Rattle.layout.specs.declared.sizes.Sizes.{Sizes}
 use Rattle.layout.specs.declared.names.Kind.{Kind}
 use Rattle.layout.specs.declared.names.Field.{Field}
@@ -19,20 +19,20 @@ use Rattle.places.specs.Calls.{place_first}
 use Rattle.places.specs.Marks.{pending}
 use Rattle.places.specs.Touches.{settled_field}
 use Rattle.stepper.specs.Workers.{fresh, nobody}
-use Rattle.stepper.specs.declared.request.Request.{Request}
-use Rattle.stepper.specs.declared.request.Request.TheVariants as request
 use Rattle.stepper.specs.States.{State}
 use Rattle.stepper.specs.Opening.{opened_state}
 use Rattle.stepper.specs.Turns.{worker_at, turned}
-use Rattle.stepper.specs.Requests.{turn_refused, begun_as, state_or, state_begun, stepped}
+use Rattle.stepper.specs.Requests.{begun_as, state_begun}
 use Rattle.stepper.specs.History.{Event, Traces}
+use Rattle.stepper.proofs.Stages.{Staged, StagedOr}
 use Rattle.laws.specs.Fits.{Linked, FitPlace, FitPurpose}
 use Rattle.laws.specs.Changes.{number_in}
 use Rattle.laws.specs.Sound.{Sound}
 use Rattle.laws.specs.Stamps.{IsStamp, Moves, Moves.same, Moves.ended, Moves.settled, Moment}
 use Rattle.laws.proofs.Touched.{Settled, settled_field_lem}
-use Rattle.laws.proofs.Runs.{get_or-replicate, turn_taken, runs_sound}
-use Rattle.laws.proofs.Stages.{Staged}
+use Rattle.laws.proofs.Served.{get_or-replicate}
+use Rattle.laws.proofs.Steps.{step_each, run_each}
+use Rattle.laws.proofs.Runs.{runs_sound}
 use Rattle.laws.proofs.Places.{got_at, number_at, turn_places, begin_places}
 use Rattle.laws.proofs.Stamped.{Stamped, turn_moves, runs_stamped}
 
@@ -56,21 +56,13 @@ begun_stays z f x y (settled a b) (inl h) = inr b
 module _ (start : State) where
   -- once it has read the field as pending
   abbrev KnownStage : List Event → State → Stage → Purpose → Type 0
-  KnownStage h s stage.First p = Unit {0}
   KnownStage h s stage.Clock p = Begun s.sizes (number_in s (settled_field p))
   KnownStage h s (stage.Swap n) p = IsStamp s.sizes (number_in s (settled_field p)) ⊎ Moment start h (settled_field p) n
-  KnownStage h s stage.Again p = Unit {0}
+  KnownStage h s st p = Unit {0}
 
   abbrev Known : List Event → State → Place → Type 0
-  Known h s place.Idle = Unit {0}
-  Known h s (place.Head l) = Unit {0}
   Known h s (place.Settle st p) = KnownStage h s st p
-  Known h s (place.Link c x) = Unit {0}
-  Known h s (place.End c r) = Unit {0}
-  Known h s (place.LostHead i) = Unit {0}
-  Known h s (place.Raise v) = Unit {0}
-  Known h s (place.WalkHead k) = Unit {0}
-  Known h s (place.WalkOlder k r) = Unit {0}
+  Known h s p = Unit {0}
 
   moment_later : (e : Event) (h : List Event) (c : Cell) (n : ℕ) → Moment start h c n → Moment start (e ∷ h) c n
   moment_later e h c n m = record {
@@ -99,22 +91,14 @@ module _ (start : State) (e : Event) (h : List Event) (s t : State) (m : Moved s
   stamp_later p f b = let q = settled_field_lem s p f in subst (λ z. IsStamp z (number_in t (settled_field p))) (sym m.sizes) (stamp_stays s.sizes q.field _ _ (field_moves p q) b)
 
   stage_later : (st : Stage) (p : Purpose) → FitPurpose s p → KnownStage start h s st p → KnownStage start (e ∷ h) t st p
-  stage_later stage.First p f k = tt
   stage_later stage.Clock p f k = begun_later p f k
   stage_later (stage.Swap n) p f (inl k) = inl (stamp_later p f k)
   stage_later (stage.Swap n) p f (inr k) = inr (moment_later start e h (settled_field p) n k)
-  stage_later stage.Again p f k = tt
+  stage_later st p f k = tt
 
   known_later : (p : Place) → FitPlace s p → Known start h s p → Known start (e ∷ h) t p
-  known_later place.Idle f k = tt
-  known_later (place.Head l) f k = tt
   known_later (place.Settle st p) f k = stage_later st p f k
-  known_later (place.Link c x) f k = tt
-  known_later (place.End c r) f k = tt
-  known_later (place.LostHead i) f k = tt
-  known_later (place.Raise v) f k = tt
-  known_later (place.WalkHead j) f k = tt
-  known_later (place.WalkOlder j r) f k = tt
+  known_later p f k = tt
 
 abbrev AllKnown : State → List Event → State → Type 0
 AllKnown start h s = (w : ℕ) → w < s.sizes.workers → Known start h s (worker_at s w).place
@@ -128,30 +112,25 @@ module _ (start : State) (e : Event) (h : List Event) (s : State) (tr : Traces s
   at_moment n p f c (inl a) = inr (record { since = e ∷ []; until = h; parts = refl; state = s; traces = tr; clock = c; waited = a })
   at_moment n p f c (inr a) = inl (stamp_later start e h s (turned s w) turn_moved p f a)
 
-  own_known : (q : Place) → Staged (worker_at s w).place (got_at s w) q → Known start (e ∷ h) (turned s w) q
-  own_known place.Idle g = tt
-  own_known (place.Head l) g = tt
-  own_known (place.Settle stage.First p) g = tt
-  own_known (place.Settle stage.Clock p) g =
+  read_known : (q : Place) → Staged (worker_at s w).place (got_at s w) q → Known start (e ∷ h) (turned s w) q
+  read_known (place.Settle stage.Clock p) g =
       begun_later start e h s (turned s w) turn_moved p (subst (FitPlace s) g.0 (z.places w b)) (inl (sym (ap (number_at s w) g.0) ∙ g.1))
-  own_known (place.Settle (stage.Swap n) p) g =
+  read_known (place.Settle (stage.Swap n) p) g =
       at_moment n p (subst (FitPlace s) g.0 (z.places w b)) (sym (g.1 ∙ ap (number_at s w) g.0)) (subst (Known start h s) g.0 (k w b))
-  own_known (place.Settle stage.Again p) g = tt
-  own_known (place.Link c x) g = tt
-  own_known (place.End c r) g = tt
-  own_known (place.LostHead j) g = tt
-  own_known (place.Raise v) g = tt
-  own_known (place.WalkHead j) g = tt
-  own_known (place.WalkOlder j r) g = tt
+  read_known (place.Settle st p) g = tt
+  read_known q g = tt
+
+  own_known : (a : Option Answer) (q : Place) → StagedOr (worker_at s w).place (got_at s w) a q → Known start (e ∷ h) (turned s w) q
+  own_known None q g = read_known q g
+  own_known (Some a) q g = subst (Known start (e ∷ h) (turned s w)) (sym g) tt
 
   turn_known : AllKnown start (e ∷ h) (turned s w)
   turn_known = turn_places s w z b (Known start (e ∷ h) (turned s w)) own_known (λ v l. known_later start e h s (turned s w) turn_moved (worker_at s v).place (z.places v l) (k v l))
 
 -- a begin or a refusal changes no cell
 first_known : (start : State) (h : List Event) (s : State) (c : Call) → Known start h s (place_first c)
-first_known start h s (call.Vertex o i) = tt
-first_known start h s (call.Edge o p) = tt
 first_known start h s (call.Survey v) = tt
+first_known start h s c = tt
 
 module _ (start : State) (e : Event) (h : List Event) (s : State) (z : Sound s) (k : AllKnown start h s) where
   kept_known : (t : State) → t.sizes ≡ s.sizes → t.cells ≡ s.cells → (v : ℕ) → v < s.sizes.workers → Known start (e ∷ h) t (worker_at s v).place
@@ -160,30 +139,22 @@ module _ (start : State) (e : Event) (h : List Event) (s : State) (z : Sound s) 
       kept_number : (j : Kind) (f : Field) (r : ℕ) → number_in t (cell.Stamp j f r) ≡ number_in s (cell.Stamp j f r)
       kept_number j f r = cc
 
-  begin_known : (b : Begin) (r : Result Call Refusal) → begun_as s b ≡ r → AllKnown start (e ∷ h) (state_begun s b.worker r)
-  begin_known b (Err q) a = kept_known s refl refl
-  begin_known b (Ok c) a =
+  begin_known : (b : Begin) (c : Call) → begun_as s b ≡ Ok c → AllKnown start (e ∷ h) (state_begun s b.worker (Ok c))
+  begin_known b c a =
       let t : State = state_begun s b.worker (Ok c) in
       begin_places s b z c a (Known start (e ∷ h) t) (first_known start (e ∷ h) t c) (kept_known t refl refl)
-
-  refused_known : Traces start h s → Stamped s → (w : ℕ) (r : Option Refusal) → turn_refused s w ≡ r → AllKnown start (e ∷ h) (state_or r s (turned s w))
-  refused_known tr i w (Some q) a = kept_known s refl refl
-  refused_known tr i w None a = turn_known start e h s tr w z (turn_taken s w a) i k
-
-  stepped_known : Traces start h s → Stamped s → (q : Request) → AllKnown start (e ∷ h) (stepped s q)
-  stepped_known tr i (request.Begin b) = begin_known b (begun_as s b) refl
-  stepped_known tr i (request.Turn w) = refused_known tr i w (turn_refused s w) refl
 
 module _ (z : Sizes) (cs : List ℕ) (l : needed z ≤ length cs) where
   abbrev start : State
   start = opened_state cs z
 
   runs_known : (h : List Event) (s : State) → Traces start h s → AllKnown start h s
-  runs_known [] s t = subst (AllKnown start []) t (λ w b. get_or-replicate (λ u. Known start [] start u.place) 8 w fresh nobody tt tt)
-  runs_known (e ∷ h) s t =
-      let k = runs_sound z cs l h t.0 t.1 in
-      let i = runs_stamped z cs l h t.0 t.1 in
-      subst (AllKnown start (e ∷ h)) (sym t.3) (stepped_known start e h t.0 k (runs_known h t.0 t.1) t.1 i e.request)
+  runs_known =
+      run_each start (AllKnown start) (λ w b. get_or-replicate (λ u. Known start [] start u.place) 8 w fresh nobody tt tt)
+      (λ e h s t a.
+      let k = runs_sound z cs l h s t in
+      let i = runs_stamped z cs l h s t in
+      step_each s (AllKnown start (e ∷ h)) (kept_known start e h s k a s refl refl) (begin_known start e h s k a) (λ w b. turn_known start e h s t w k b i a) e.request)
 
   swap_source : (h : List Event) (s : State) (n : ℕ) (p : Purpose) → Known start h s (place.Settle (stage.Swap n) p) → number_in s (settled_field p) ≡ pending → Moment start h (settled_field p) n
   swap_source h s n p (inl i) e = absurd (omega arith)

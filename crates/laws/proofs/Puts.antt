@@ -1,7 +1,7 @@
--- A named cell after other named cells were set: what holds of the new number there and of the old one elsewhere.
-use Rattle.std.proofs.Common.{◌≡◌, ℕ, ◌+◌, ◌<◌, ◌≤◌, Bool, true, false, cond, eqb, ltb, List, length, get_or, set, sym, refl, ap, ◌∙◌, subst, ⊎_elim, arith}
+-- A list after one item was set, and a named cell after other named cells were: what holds of the new one there and of the old one elsewhere.
+use Rattle.std.proofs.Common.{◌≡◌, ℕ, ◌+◌, ◌<◌, ◌≤◌, eqb, ltb, List, length, get_or, set, sym, ap, ◌∙◌, subst, ⊎_elim, arith}
 use Rattle.std.proofs.lemmas.List.{length-set, get_or-set_same, get_or-set_other}
-use Rattle.std.proofs.lemmas.Bool.{cases_eq, eqb-true, ltb-true}
+use Rattle.std.proofs.lemmas.Bool.{cases_eq, eqb-true, ltb-true, cond_both}
 use Rattle.cells.specs.Cells.{swapped, raised}
 use Rattle.layout.specs.declared.sizes.Sizes.{Sizes}
 use Rattle.layout.specs.declared.names.Cell.{Cell}
@@ -10,6 +10,13 @@ use Rattle.layout.proofs.Regions.{index_lt}
 use Rattle.layout.proofs.Inverse.{same_name}
 use Rattle.stepper.specs.Effects.{put}
 use Rattle.stepper.specs.Turns.{cell_at}
+
+pub set_each : {A : Type 0} (P : ℕ → A → Type 0) (xs : List A) (w : ℕ) (x d : A) → w < length xs → P w x → ((v : ℕ) → ¬ (v ≡ w) → P v (get_or xs v d)) → (v : ℕ) → P v (get_or (set xs w x) v d)
+set_each P xs w x d l here there v =
+    ⊎_elim
+    (λ (e : v ≡ w). subst (λ u. P u (get_or (set xs w x) u d)) (sym e) (subst (P w) (sym (get_or-set_same xs w x d l)) here))
+    (λ (n : v ≡ w → ⊥). subst (P v) (sym (get_or-set_other xs w v x d n)) (there v n))
+    (cases_eq v w)
 
 -- cells enough for the sizes
 abbrev pub Enough : Sizes → List ℕ → Type 0
@@ -34,15 +41,11 @@ put_at z P cs d c v n m l here there = set_at_index z P cs (index_of z d) v c n 
 
 -- a swap says yes where the cell holds the expected number
 pub swap_at : (z : Sizes) (P : ℕ → Type 0) (cs : List ℕ) (d c : Cell) (old new : ℕ) → Named z c → Named z d → Enough z cs → (c ≡ d → cell_at z cs d ≡ old → P new) → P (cell_at z cs c) → P (cell_at z (swapped cs (index_of z d) old new) c)
-swap_at z P cs d c old new n m l here there = go (eqb (cell_at z cs d) old) refl
-  where
-    go : (b : Bool) → eqb (cell_at z cs d) old ≡ b → P (cell_at z (cond b (set cs (index_of z d) new) cs) c)
-    go true e = put_at z P cs d c new n m l (λ f. here f (eqb-true (cell_at z cs d) old e)) there
-    go false e = there
+swap_at z P cs d c old new n m l here there =
+    cond_both (eqb (cell_at z cs d) old) (set cs (index_of z d) new) cs (λ u. P (cell_at z u c))
+    (λ e. put_at z P cs d c new n m l (λ f. here f (eqb-true (cell_at z cs d) old e)) there) (λ _. there)
 
 pub raise_at : (z : Sizes) (P : ℕ → Type 0) (cs : List ℕ) (d c : Cell) (limit : ℕ) → Named z c → Named z d → Enough z cs → (c ≡ d → cell_at z cs d < limit → P (cell_at z cs d + 1)) → P (cell_at z cs c) → P (cell_at z (raised cs (index_of z d) limit) c)
-raise_at z P cs d c limit n m l here there = go (ltb (cell_at z cs d) limit) refl
-  where
-    go : (b : Bool) → ltb (cell_at z cs d) limit ≡ b → P (cell_at z (cond b (set cs (index_of z d) (cell_at z cs d + 1)) cs) c)
-    go true e = put_at z P cs d c (cell_at z cs d + 1) n m l (λ f. here f (ltb-true (cell_at z cs d) limit e)) there
-    go false e = there
+raise_at z P cs d c limit n m l here there =
+    cond_both (ltb (cell_at z cs d) limit) (set cs (index_of z d) (cell_at z cs d + 1)) cs (λ u. P (cell_at z u c))
+    (λ e. put_at z P cs d c (cell_at z cs d + 1) n m l (λ f. here f (ltb-true (cell_at z cs d) limit e)) there) (λ _. there)

@@ -1,9 +1,6 @@
 -- Every run from an opening keeps its places fit.
-use Rattle.std.proofs.Common.{◌≡◌, ℕ, zero, suc, ◌<◌, ◌≤◌, Bool, true, false, cond, ltb, List, [], ◌∷◌, ◌++◌, length, get_or, drop, replicate, Some, None, Option, sym, refl, ◌∙◌, subst, inl, arith}
-use Rattle.std.proofs.lemmas.List.{length-set, length-append, length-replicate, get_or-set_other}
-use Rattle.std.proofs.lemmas.Bool.{ltb-true}
-use Rattle.codes.specs.declared.refusal.Refusal.{Refusal}
-use Rattle.codes.specs.declared.refusal.Refusal.TheVariants.{NoSuchWorker, WorkerIdle}
+use Rattle.std.proofs.Common.{◌≡◌, ℕ, ◌<◌, ◌≤◌, List, length, get_or, drop, replicate, refl, ◌∙◌, inl, arith}
+use Rattle.std.proofs.lemmas.List.{length-set, length-append, length-replicate, get_or-set_other, get_or_append_left}
 use Rattle.layout.specs.declared.sizes.Sizes.{Sizes}
 use Rattle.layout.specs.declared.names.Kind.{Kind}
 use Rattle.layout.specs.declared.names.Kind.TheVariants.{Vertex, Edge}
@@ -12,32 +9,18 @@ use Rattle.layout.specs.declared.names.Head.TheVariants as head
 use Rattle.layout.specs.declared.names.Cell.TheVariants as cell
 use Rattle.layout.specs.Layout.{needed, index_of, Named}
 use Rattle.layout.proofs.Regions.{index_lt}
-use Rattle.stepper.specs.declared.request.Request.{Request}
-use Rattle.stepper.specs.declared.request.Request.TheVariants as request
 use Rattle.stepper.specs.States.{State}
 use Rattle.stepper.specs.Opening.{cleared, opened_state}
-use Rattle.stepper.specs.Turns.{worker_at, turned}
+use Rattle.stepper.specs.Turns.{worker_at}
 use Rattle.stepper.specs.Workers.{fresh, nobody, linked_of}
-use Rattle.stepper.specs.Requests.{is_idle, turn_refused, begun_as, state_or, stepped}
 use Rattle.laws.specs.Fits.{FitPlace}
 use Rattle.laws.specs.Changes.{number_in}
 use Rattle.laws.specs.Sound.{Sound, RunsSound, RunsKeepLaws}
-use Rattle.laws.proofs.Served.{blank_queue}
+use Rattle.laws.proofs.Served.{get_or-replicate, blank_queue}
 use Rattle.laws.proofs.Stays.{turn_laws}
 use Rattle.laws.proofs.Keeps.{turn_sound}
-use Rattle.laws.proofs.Begins.{stepped_begin}
-
--- each record of a table of copies is the copy, or none
-pub get_or-replicate : {A : Type 0} (P : A → Type 0) (m i : ℕ) (x d : A) → P x → P d → P (get_or (replicate m x) i d)
-get_or-replicate P zero i x d a b = b
-get_or-replicate P (suc m) zero x d a b = a
-get_or-replicate P (suc m) (suc i) x d a b = get_or-replicate P m i x d a b
-
--- the first n cells of a cleared list are 0
-front_zero : (n i : ℕ) (cs : List ℕ) → i < n → ◌≡◌ {A = ℕ} (get_or (replicate n 0 ++ cs) i 0) 0
-front_zero zero i cs h = absurd (omega arith)
-front_zero (suc n) zero cs h = refl
-front_zero (suc n) (suc i) cs h = front_zero n i cs (omega arith)
+use Rattle.laws.proofs.Begins.{begin_sound}
+use Rattle.laws.proofs.Steps.{step_each, run_each}
 
 index_head : (z : Sizes) (h : Head) → index_of z (cell.Head h) ≡ 0 → ⊥
 index_head z (head.Vertex i) e = omega arith
@@ -48,7 +31,8 @@ module _ (z : Sizes) (cs : List ℕ) (l : needed z ≤ length cs) where
   start = opened_state cs z
 
   head_none : (h : Head) → Named z (cell.Head h) → number_in start (cell.Head h) ≡ 0
-  head_none h m = get_or-set_other (cleared (needed z) cs) 0 (index_of z (cell.Head h)) 1 0 (index_head z h) ∙ front_zero (needed z) (index_of z (cell.Head h)) (drop (needed z) cs) (index_lt z (cell.Head h) m)
+  head_none h m = get_or-set_other (cleared (needed z) cs) 0 (index_of z (cell.Head h)) 1 0 (index_head z h) ∙ get_or_append_left (replicate (needed z) 0) (drop (needed z) cs) 0 (index_of z (cell.Head h)) (simp length-replicate (index_lt z (cell.Head h) m))
+      ∙ get_or-replicate (λ (x : ℕ). x ≡ 0) (needed z) (index_of z (cell.Head h)) 0 0 refl refl
 
   pub no_links : (v : ℕ) (k : Kind) → linked_of (worker_at start v) k ≡ 0
   no_links v Vertex = get_or-replicate (λ u. linked_of u Vertex ≡ 0) 8 v fresh nobody refl refl
@@ -64,25 +48,10 @@ module _ (z : Sizes) (cs : List ℕ) (l : needed z ≤ length cs) where
     queues = λ w n h. get_or-replicate (λ u. get_or u.book.queue n 0 < z.keys) 8 w fresh nobody (blank_queue z.keys 0 (omega arith) n) (omega arith);
   }
 
--- a turn that is not refused is of a worker that there is
-taken : (a i : Bool) (x : ℕ) (W : ℕ) → a ≡ ltb x W → cond a (cond i (Some WorkerIdle) None) (Some NoSuchWorker) ≡ None → x < W
-taken true i x W e f = ltb-true x W (sym e)
-taken false i x W e f = let z : ◌≡◌ {A = ℕ} 0 1 = cc in absurd (omega arith)
-
-pub turn_taken : (s : State) (w : ℕ) → turn_refused s w ≡ None → w < s.sizes.workers
-turn_taken s w e = taken (ltb w s.sizes.workers) (is_idle (worker_at s w).place) w s.sizes.workers refl e
-
-stepped_turn : (s : State) (w : ℕ) → Sound s → (r : Option Refusal) → turn_refused s w ≡ r → Sound (state_or r s (turned s w))
-stepped_turn s w z None e = turn_sound s w z (turn_taken s w e)
-stepped_turn s w z (Some q) e = z
-
-stepped_sound : (s : State) (q : Request) → Sound s → Sound (stepped s q)
-stepped_sound s (request.Begin b) z = stepped_begin s b z (begun_as s b) refl
-stepped_sound s (request.Turn w) z = stepped_turn s w z (turn_refused s w) refl
-
 pub runs_sound : RunsSound
-runs_sound z cs l [] s t = subst Sound t (open_sound z cs l)
-runs_sound z cs l (e ∷ h) s t = subst Sound (sym t.3) (stepped_sound t.0 e.request (runs_sound z cs l h t.0 t.1))
+runs_sound z cs l =
+    run_each (opened_state cs z) (λ h s. Sound s) (open_sound z cs l)
+    (λ e h s t k. step_each s Sound k (λ b c q. begin_sound s b k c q) (λ w b. turn_sound s w k b) e.request)
 
 pub runs_keep_laws : RunsKeepLaws
 runs_keep_laws z cs l h s t w b =

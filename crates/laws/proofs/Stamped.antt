@@ -1,7 +1,7 @@
 -- Every run keeps the clock within its limits, and ins and del of linked rows at 0, pending or a stamp.
-use Rattle.std.proofs.Common.{◌≡◌, ℕ, ◌<◌, ◌≤◌, List, [], ◌∷◌, length, Some, None, Ok, Err, Option, Result, sym, refl, ap, ◌∙◌, subst, ⊎_elim, arith}
+use Rattle.std.proofs.Common.{◌≡◌, ℕ, ◌+◌, ◌<◌, ◌≤◌, List, length, Some, None, Ok, Option, sym, refl, ap, ◌∙◌, subst, ⊎_elim, arith}
 use Rattle.std.proofs.lemmas.List.{length-append, length-replicate, get_or-set_same}
-use Rattle.codes.specs.declared.refusal.Refusal.{Refusal}
+use Rattle.codes.specs.declared.answer.Answer.{Answer}
 use Rattle.layout.specs.declared.sizes.Sizes.{Sizes}
 use Rattle.layout.specs.declared.names.Kind.{Kind}
 use Rattle.layout.specs.declared.names.Field.{Field}
@@ -16,39 +16,29 @@ use Rattle.places.specs.declared.place.Place.{Place}
 use Rattle.places.specs.declared.place.Place.TheVariants as place
 use Rattle.places.specs.Calls.{place_first}
 use Rattle.stepper.specs.Workers.{fresh, nobody}
-use Rattle.stepper.specs.declared.request.Request.{Request}
-use Rattle.stepper.specs.declared.request.Request.TheVariants as request
 use Rattle.stepper.specs.States.{State}
 use Rattle.stepper.specs.Opening.{cleared, opened_state}
 use Rattle.stepper.specs.Turns.{worker_at, turned}
-use Rattle.stepper.specs.Requests.{turn_refused, begun_as, state_or, state_begun, stepped}
+use Rattle.stepper.specs.Requests.{begun_as, state_begun}
 use Rattle.stepper.specs.History.{Event, Traces}
+use Rattle.stepper.proofs.Stages.{Staged, StagedOr}
 use Rattle.laws.specs.Fits.{Linked}
-use Rattle.laws.specs.Changes.{next_own, number_in, Changes, Changes.keeps, Changes.ticks, Changes.links, Changes.stamps, Changes.ends, Changes.fills, Changes.writes}
+use Rattle.laws.specs.Changes.{number_in, Changes, Changes.keeps, Changes.ticks, Changes.links, Changes.stamps, Changes.ends, Changes.fills, Changes.writes}
 use Rattle.laws.specs.Sound.{Sound}
 use Rattle.laws.specs.Stamps.{IsStamp, field_start, Holds, Holds.not_ended, Holds.waits, Holds.stamped, Moves, Moves.same, Moves.ended, Moves.settled}
 use Rattle.laws.proofs.Owned.{linked_row, next_unlinked}
-use Rattle.laws.proofs.Stays.{turn_changes, settled_of}
+use Rattle.laws.proofs.Stays.{turn_changes, clock_changes}
 use Rattle.laws.proofs.Keeps.{New, fit, split, new_starts}
 use Rattle.laws.proofs.Begins.{was}
-use Rattle.laws.proofs.Runs.{get_or-replicate, no_links, turn_taken, runs_sound}
-use Rattle.laws.proofs.Stages.{Staged}
+use Rattle.laws.proofs.Served.{get_or-replicate}
+use Rattle.laws.proofs.Steps.{step_each, run_each}
+use Rattle.laws.proofs.Runs.{no_links, runs_sound}
 use Rattle.laws.proofs.Places.{got_at, number_at, turn_places, begin_places}
 
 -- the number that a worker has read off the clock
 abbrev InHand : Sizes → Place → Type 0
-InHand z place.Idle = Unit {0}
-InHand z (place.Head l) = Unit {0}
-InHand z (place.Settle stage.First p) = Unit {0}
-InHand z (place.Settle stage.Clock p) = Unit {0}
 InHand z (place.Settle (stage.Swap n) p) = IsStamp z n
-InHand z (place.Settle stage.Again p) = Unit {0}
-InHand z (place.Link c h) = Unit {0}
-InHand z (place.End c r) = Unit {0}
-InHand z (place.LostHead i) = Unit {0}
-InHand z (place.Raise v) = Unit {0}
-InHand z (place.WalkHead k) = Unit {0}
-InHand z (place.WalkOlder k r) = Unit {0}
+InHand z p = Unit {0}
 
 pub record Stamped (s : State) : Type 0 where
   pub clock : IsStamp s.sizes (number_in s cell.Clock)
@@ -70,36 +60,26 @@ module _ (s : State) (w : ℕ) (z : Sound s) (b : w < s.sizes.workers) (i : Stam
   t = turned s w
 
   clock_moves : (x y : ℕ) → Changes s w cell.Clock x y → IsStamp s.sizes x → IsStamp s.sizes y
-  clock_moves x y (keeps e) h = subst (IsStamp s.sizes) (sym e) h
-  clock_moves x y (ticks v e c l q) h = (omega arith, omega arith)
-  clock_moves x y (links d e c p q) h = let n : ◌≡◌ {A = ℕ} 0 1 = cc in absurd (omega arith)
-  clock_moves x y (stamps p e c q) h = let u = settled_of s w (fit s w z b) p y e in let j = c ∙ u.is in let n : ◌≡◌ {A = ℕ} 0 1 = cc in absurd (omega arith)
-  clock_moves x y (ends d r e c a q) h = let n : ◌≡◌ {A = ℕ} 0 1 = cc in absurd (omega arith)
-  clock_moves x y (fills k p o) h = absurd o
-  clock_moves x y (writes o) h = absurd o
+  clock_moves x y c h =
+      ⊎_elim (λ (e : y ≡ x). subst (IsStamp s.sizes) (sym e) h) (λ (e : (x < s.sizes.top) × (y ≡ x + 1)). (omega arith, omega arith))
+      (clock_changes s w (fit s w z b) x y c)
 
   -- a worker reads its number off the clock
-  own_hand : (q : Place) → Staged (worker_at s w).place (got_at s w) q → InHand s.sizes q
-  own_hand place.Idle e = tt
-  own_hand (place.Head l) e = tt
-  own_hand (place.Settle stage.First p) e = tt
-  own_hand (place.Settle stage.Clock p) e = tt
-  own_hand (place.Settle (stage.Swap n) p) e = subst (IsStamp s.sizes) (sym (e.1 ∙ ap (number_at s w) e.0)) i.clock
-  own_hand (place.Settle stage.Again p) e = tt
-  own_hand (place.Link c h) e = tt
-  own_hand (place.End c r) e = tt
-  own_hand (place.LostHead k) e = tt
-  own_hand (place.Raise v) e = tt
-  own_hand (place.WalkHead k) e = tt
-  own_hand (place.WalkOlder k r) e = tt
+  read_hand : (q : Place) → Staged (worker_at s w).place (got_at s w) q → InHand s.sizes q
+  read_hand (place.Settle (stage.Swap n) p) e = subst (IsStamp s.sizes) (sym (e.1 ∙ ap (number_at s w) e.0)) i.clock
+  read_hand q e = tt
+
+  own_hand : (a : Option Answer) (q : Place) → StagedOr (worker_at s w).place (got_at s w) a q → InHand s.sizes q
+  own_hand None q e = read_hand q e
+  own_hand (Some a) q e = subst (InHand s.sizes) (sym e) tt
 
   field_moves : (k : Kind) (f : Field) (r x y : ℕ) → Linked s k r → Changes s w (cell.Stamp k f r) x y → Moves s.sizes f x y
   field_moves k f r x y l (keeps e) = same e
-  field_moves k f r x y l (ticks v e c h q) = let n : ◌≡◌ {A = ℕ} 0 1 = cc in absurd (omega arith)
-  field_moves k f r x y l (links d e c p q) = let n : ◌≡◌ {A = ℕ} 0 1 = cc in absurd (omega arith)
+  field_moves k f r x y l (ticks v e c h q) = absurd cc
+  field_moves k f r x y l (links d e c p) = absurd cc
   field_moves k f r x y l (stamps p e c q) = settled q (subst (InHand s.sizes) e (i.hands w b))
   field_moves k f r x y l (ends d q e c a h) = let g : f ≡ Del = cc in ended g a h
-  field_moves k f r x y l (fills j p o) = absurd (next_unlinked s w j p (subst (λ (q : Kind). Linked s q (next_own s w j)) o.0 (subst (Linked s k) o.1 l)))
+  field_moves k f r x y l (fills j q p o) = absurd (next_unlinked s w j q p (subst (λ (u : Kind). Linked s u q) o.0 (subst (Linked s k) o.1 l)))
   field_moves k f r x y l (writes o) = absurd o
 
   pub turn_moves : (k : Kind) (f : Field) (r : ℕ) → Linked s k r → Moves s.sizes f (number_in s (cell.Stamp k f r)) (number_in (turned s w) (cell.Stamp k f r))
@@ -117,25 +97,15 @@ module _ (s : State) (w : ℕ) (z : Sound s) (b : w < s.sizes.workers) (i : Stam
 
 -- a begin changes no cell
 first_hand : (z : Sizes) (c : Call) → InHand z (place_first c)
-first_hand z (call.Vertex o i) = tt
-first_hand z (call.Edge o p) = tt
 first_hand z (call.Survey v) = tt
+first_hand z c = tt
 
-begin_stamped : (s : State) (b : Begin) → Sound s → Stamped s → (r : Result Call Refusal) → begun_as s b ≡ r → Stamped (state_begun s b.worker r)
-begin_stamped s b z i (Err q) e = i
-begin_stamped s b z i (Ok c) e = record {
+begin_stamped : (s : State) (b : Begin) → Sound s → Stamped s → (c : Call) → begun_as s b ≡ Ok c → Stamped (state_begun s b.worker (Ok c))
+begin_stamped s b z i c e = record {
   clock = i.clock;
   hands = begin_places s b z c e (InHand s.sizes) (first_hand s.sizes c) i.hands;
   fields = λ k f r l. i.fields k f r (was s b z c e k r l);
 }
-
-refused_stamped : (s : State) (w : ℕ) → Sound s → Stamped s → (r : Option Refusal) → turn_refused s w ≡ r → Stamped (state_or r s (turned s w))
-refused_stamped s w z i (Some q) e = i
-refused_stamped s w z i None e = turn_stamped s w z (turn_taken s w e) i
-
-stepped_stamped : (s : State) (q : Request) → Sound s → Stamped s → Stamped (stepped s q)
-stepped_stamped s (request.Begin b) z i = begin_stamped s b z i (begun_as s b) refl
-stepped_stamped s (request.Turn w) z i = refused_stamped s w z i (turn_refused s w) refl
 
 open_stamped : (z : Sizes) (cs : List ℕ) → needed z ≤ length cs → Stamped (opened_state cs z)
 open_stamped z cs l =
@@ -148,5 +118,6 @@ open_stamped z cs l =
     }
 
 pub runs_stamped : (z : Sizes) (cs : List ℕ) → needed z ≤ length cs → (h : List Event) (s : State) → Traces (opened_state cs z) h s → Stamped s
-runs_stamped z cs l [] s t = subst Stamped t (open_stamped z cs l)
-runs_stamped z cs l (e ∷ h) s t = subst Stamped (sym t.3) (stepped_stamped t.0 e.request (runs_sound z cs l h t.0 t.1) (runs_stamped z cs l h t.0 t.1))
+runs_stamped z cs l =
+    run_each (opened_state cs z) (λ h s. Stamped s) (open_stamped z cs l)
+    (λ e h s t i. let k = runs_sound z cs l h s t in step_each s Stamped i (λ b c q. begin_stamped s b k i c q) (λ w b. turn_stamped s w k b i) e.request)

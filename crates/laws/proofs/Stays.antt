@@ -1,5 +1,5 @@
 -- What a turn leaves as it was.
-use Rattle.std.proofs.Common.{◌≡◌, ℕ, ◌<◌, ◌≤◌, sym, refl, ◌∙◌, subst, arith}
+use Rattle.std.proofs.Common.{◌≡◌, ℕ, ◌+◌, ◌<◌, ◌⊎◌, inl, inr, ⊎_elim, Some, sym, refl, ◌∙◌, subst, arith}
 use Rattle.std.proofs.lemmas.List.{get_or-set_other}
 use Rattle.layout.specs.declared.names.Kind.{Kind}
 use Rattle.layout.specs.declared.names.Kind.TheVariants.{Edge}
@@ -38,43 +38,27 @@ turn_changes s w f c m =
 
 -- a cell is of a row or on a page, and not both
 row_no_page : (k : Kind) (r v : ℕ) (c : Cell) → OfRow k r c → OnPage v c → ⊥
-row_no_page k r v cell.Clock a b = a
-row_no_page k r v (cell.Head h) a b = a
-row_no_page k r v (cell.Older l q) a b = b
-row_no_page k r v (cell.Stamp l f q) a b = b
-row_no_page k r v (cell.Source q) a b = b
-row_no_page k r v (cell.Target q) a b = b
-row_no_page k r v (cell.Weight q) a b = b
 row_no_page k r v (cell.PageKey u i) a b = a
 row_no_page k r v (cell.PagePair u i j) a b = a
+row_no_page k r v c a b = b
 
 same_row : (k l : Kind) (r q : ℕ) (c : Cell) → OfRow k r c → OfRow l q c → (k ≡ l) × (r ≡ q)
-same_row k l r q cell.Clock a b = absurd a
-same_row k l r q (cell.Head h) a b = absurd a
-same_row k l r q (cell.Older x y) a b = (sym a.0 ∙ b.0, sym a.1 ∙ b.1)
-same_row k l r q (cell.Stamp x f y) a b = (sym a.0 ∙ b.0, sym a.1 ∙ b.1)
-same_row k l r q (cell.Source y) a b = (a.0 ∙ sym b.0, sym a.1 ∙ b.1)
-same_row k l r q (cell.Target y) a b = (a.0 ∙ sym b.0, sym a.1 ∙ b.1)
-same_row k l r q (cell.Weight y) a b = (a.0 ∙ sym b.0, sym a.1 ∙ b.1)
-same_row k l r q (cell.PageKey u i) a b = absurd a
-same_row k l r q (cell.PagePair u i j) a b = absurd a
+same_row k l r q (cell.Older x y) a b = (cc, cc)
+same_row k l r q (cell.Stamp x f y) a b = (cc, cc)
+same_row k l r q (cell.Source y) a b = (cc, cc)
+same_row k l r q (cell.Target y) a b = (cc, cc)
+same_row k l r q (cell.Weight y) a b = (cc, cc)
+same_row k l r q c a b = absurd a
 
 same_page : (v w : ℕ) (c : Cell) → OnPage v c → OnPage w c → v ≡ w
-same_page v w (cell.PageKey u i) a b = sym a ∙ b
-same_page v w (cell.PagePair u i j) a b = sym a ∙ b
+same_page v w (cell.PageKey u i) a b = cc
+same_page v w (cell.PagePair u i j) a b = cc
 same_page v w c a b = absurd a
 
 -- a cell that holds no stamp
 abbrev NoStamp : Cell → Type 0
-NoStamp cell.Clock = Unit {0}
-NoStamp (cell.Head h) = Unit {0}
-NoStamp (cell.Older k r) = Unit {0}
 NoStamp (cell.Stamp k f r) = ⊥
-NoStamp (cell.Source r) = Unit {0}
-NoStamp (cell.Target r) = Unit {0}
-NoStamp (cell.Weight r) = Unit {0}
-NoStamp (cell.PageKey v k) = Unit {0}
-NoStamp (cell.PagePair v i j) = Unit {0}
+NoStamp c = Unit {0}
 
 module _ (s : State) (w : ℕ) (f : Fit s w) where
   -- what a worker settles or ends is a field of a linked row
@@ -89,29 +73,45 @@ module _ (s : State) (w : ℕ) (f : Fit s w) where
     pub no_clock : c ≡ cell.Clock → ⊥
     pub no_head : (h : Head) → c ≡ cell.Head h → ⊥
     pub no_field : (k : Kind) (g : Field) (r : ℕ) → c ≡ cell.Stamp k g r → Linked s k r → ⊥
-    pub no_fill : (k : Kind) → 0 < next_own s w k → OfRow k (next_own s w k) c → ⊥
+    pub no_fill : (k : Kind) (r : ℕ) → next_own s w k ≡ Some r → OfRow k r c → ⊥
     pub no_page : OnPage w c → ⊥
 
   safe_stays : (c : Cell) (x y : ℕ) → Safe c → Changes s w c x y → y ≡ x
   safe_stays c x y n (keeps e) = e
   safe_stays c x y n (ticks v e i b q) = absurd (n.no_clock i)
-  safe_stays c x y n (links d e i p q) = absurd (n.no_head (change_head d) i)
+  safe_stays c x y n (links d e i p) = absurd (n.no_head (change_head d) i)
   safe_stays c x y n (stamps p e i q) = let t = settled_of p y e in absurd (n.no_field t.kind t.field t.row (i ∙ t.is) t.linked)
   safe_stays c x y n (ends d r e i a b) = absurd (n.no_field (change_kind d) Del r i (ended_of d r e))
-  safe_stays c x y n (fills k p o) = absurd (n.no_fill k p o)
+  safe_stays c x y n (fills k r p o) = absurd (n.no_fill k r p o)
   safe_stays c x y n (writes o) = absurd (n.no_page o)
 
   pub stays : (c : Cell) → Named s.sizes c → Safe c → Stays s w c
   stays c m n = safe_stays c (number_in s c) (number_in (turned s w) c) n (turn_changes s w f c m)
 
-  clock_rises : (x y : ℕ) → Changes s w cell.Clock x y → x ≤ y
-  clock_rises x y (keeps e) = omega arith
-  clock_rises x y (ticks v e i b q) = omega arith
-  clock_rises x y (links d e i p q) = let z : ◌≡◌ {A = ℕ} 0 1 = cc in absurd (omega arith)
-  clock_rises x y (stamps p e i q) = let t = settled_of p y e in let j = t.is in let z : ◌≡◌ {A = ℕ} 0 1 = cc (i ∙ j) in absurd (omega arith)
-  clock_rises x y (ends d r e i a b) = let z : ◌≡◌ {A = ℕ} 0 1 = cc in absurd (omega arith)
-  clock_rises x y (fills k p o) = absurd o
-  clock_rises x y (writes o) = absurd o
+  -- the clock only ticks, and a head only moves to a row that is linked
+  pub clock_changes : (x y : ℕ) → Changes s w cell.Clock x y → (y ≡ x) ⊎ ((x < s.sizes.top) × (y ≡ x + 1))
+  clock_changes x y (keeps e) = inl e
+  clock_changes x y (ticks v e i l q) = inr (l, q)
+  clock_changes x y (links d e i q) = absurd cc
+  clock_changes x y (stamps p e i q) = let t = settled_of p y e in absurd (cc (i ∙ t.is))
+  clock_changes x y (ends d r e i a b) = absurd cc
+  clock_changes x y (fills k r p o) = absurd o
+  clock_changes x y (writes o) = absurd o
+
+  pub record HeadMoves (h : Head) (x y : ℕ) : Type 0 where
+    pub change : Change
+    pub at_link : (worker_at s w).place ≡ place.Link change x
+    pub is : h ≡ change_head change
+    pub own : next_own s w (change_kind change) ≡ Some y
+
+  pub head_changes : (h : Head) (x y : ℕ) → Changes s w (cell.Head h) x y → (y ≡ x) ⊎ HeadMoves h x y
+  head_changes h x y (keeps e) = inl e
+  head_changes h x y (ticks v e i l q) = absurd cc
+  head_changes h x y (links d e i q) = inr (record { change = d; at_link = e; is = cc; own = q })
+  head_changes h x y (stamps p e i q) = let t = settled_of p y e in absurd (cc (i ∙ t.is))
+  head_changes h x y (ends d r e i a b) = absurd cc
+  head_changes h x y (fills k r p o) = absurd o
+  head_changes h x y (writes o) = absurd o
 
   -- another worker's page
   page_safe : (v : ℕ) (c : Cell) → OnPage v c → ¬ (v ≡ w) → Safe c
@@ -119,15 +119,15 @@ module _ (s : State) (w : ℕ) (f : Fit s w) where
     no_clock = λ e. subst (OnPage v) e o;
     no_head = λ h e. subst (OnPage v) e o;
     no_field = λ k g r e l. subst (OnPage v) e o;
-    no_fill = λ k p a. row_no_page k (next_own s w k) v c a o;
+    no_fill = λ k r p a. row_no_page k r v c a o;
     no_page = λ a. n (same_page v w c o a);
   }
 
   -- a row of another worker that is not linked
-  own_fill : (v : ℕ) (k l : Kind) (r : ℕ) (c : Cell) → OfRow k r c → Owns s.sizes k v r → ¬ (v ≡ w) → 0 < next_own s w l → OfRow l (next_own s w l) c → ⊥
-  own_fill v k l r c o a n p b =
-      let e = same_row k l r (next_own s w l) c o b in
-      let mine : Owns s.sizes k w r = subst (λ (q : Kind). Owns s.sizes q w r) (sym e.0) (subst (Owns s.sizes l w) (sym e.1) (next_own_lem s w l p).1) in
+  own_fill : (v : ℕ) (k l : Kind) (r q : ℕ) (c : Cell) → OfRow k r c → Owns s.sizes k v r → ¬ (v ≡ w) → next_own s w l ≡ Some q → OfRow l q c → ⊥
+  own_fill v k l r q c o a n p b =
+      let e = same_row k l r q c o b in
+      let mine : Owns s.sizes k w r = subst (λ (x : Kind). Owns s.sizes x w r) (sym e.0) (subst (Owns s.sizes l w) (sym e.1) (next_own_lem s w l q p).1) in
       n (one_owner s.sizes k v w r a mine)
 
   linked_from : (k l : Kind) (r q : ℕ) → (k ≡ l) × (r ≡ q) → Linked s l q → Linked s k r
@@ -138,7 +138,7 @@ module _ (s : State) (w : ℕ) (f : Fit s w) where
     no_clock = λ e. subst (OfRow k r) e o;
     no_head = λ h e. subst (OfRow k r) e o;
     no_field = λ l g q e i. u (linked_from k l r q (same_row k l r q c o (subst (OfRow l q) (sym e) (refl, refl))) i);
-    no_fill = λ l p b. own_fill v k l r c o a n p b;
+    no_fill = λ l q p b. own_fill v k l r q c o a n p b;
     no_page = λ b. row_no_page k r w c o b;
   }
 
@@ -148,14 +148,14 @@ module _ (s : State) (w : ℕ) (f : Fit s w) where
     no_clock = λ e. subst (OfRow k r) e o;
     no_head = λ h e. subst (OfRow k r) e o;
     no_field = λ l g q e j. subst NoStamp e n;
-    no_fill = λ l p b. let e = same_row k l r (next_own s w l) c o b in next_unlinked s w l p (linked_from l k (next_own s w l) r (sym e.0, sym e.1) i);
+    no_fill = λ l q p b. let e = same_row k l r q c o b in next_unlinked s w l q p (linked_from l k q r (sym e.0, sym e.1) i);
     no_page = λ b. row_no_page k r w c o b;
   }
 
 pub turn_laws : TurnsKeepLaws
 turn_laws s w f = record {
   changes = turn_changes s w f;
-  clock = clock_rises s w f (number_in s cell.Clock) (number_in (turned s w) cell.Clock) (turn_changes s w f cell.Clock tt);
+  clock = ⊎_elim (λ (e : number_in (turned s w) cell.Clock ≡ number_in s cell.Clock). omega arith) (λ (e : (number_in s cell.Clock < s.sizes.top) × (number_in (turned s w) cell.Clock ≡ number_in s cell.Clock + 1)). omega arith) (clock_changes s w f _ _ (turn_changes s w f cell.Clock tt));
   records = λ v n. get_or-set_other s.workers w v (followed_at s w).worker nobody n;
   pages = λ v c m o n. stays s w f c m (page_safe s w f v c o n);
   unlinked = λ v k r c m o a n u. stays s w f c m (row_safe s w f v k r c o a n u);

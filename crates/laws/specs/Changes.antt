@@ -1,5 +1,5 @@
 -- What one turn of worker w can do to a named cell.
-use Rattle.std.specs.Prelude.{◌≡◌, ℕ, ◌+◌, ◌<◌}
+use Rattle.std.specs.Prelude.{◌≡◌, ℕ, ◌+◌, ◌<◌, Some, Option}
 use Rattle.layout.specs.declared.names.Kind.{Kind}
 use Rattle.layout.specs.declared.names.Kind.TheVariants.{Edge}
 use Rattle.layout.specs.declared.names.Field.TheVariants.{Del}
@@ -23,18 +23,15 @@ OnPage w c = ⊥
 
 -- a cell of row r of kind k
 abbrev pub OfRow : Kind → ℕ → Cell → Type 0
-OfRow k r cell.Clock = ⊥
-OfRow k r (cell.Head h) = ⊥
 OfRow k r (cell.Older l q) = (l ≡ k) × (q ≡ r)
 OfRow k r (cell.Stamp l f q) = (l ≡ k) × (q ≡ r)
 OfRow k r (cell.Source q) = (k ≡ Edge) × (q ≡ r)
 OfRow k r (cell.Target q) = (k ≡ Edge) × (q ≡ r)
 OfRow k r (cell.Weight q) = (k ≡ Edge) × (q ≡ r)
-OfRow k r (cell.PageKey v i) = ⊥
-OfRow k r (cell.PagePair v i j) = ⊥
+OfRow k r c = ⊥
 
 -- the worker's next row of a kind
-abbrev pub next_own : State → ℕ → Kind → ℕ
+abbrev pub next_own : State → ℕ → Kind → Option ℕ
 next_own s w k = next_row s.sizes w (worker_at s w) k
 
 abbrev pub number_in : State → Cell → ℕ
@@ -47,12 +44,12 @@ pub data Changes (s : State) (w : ℕ) (c : Cell) (x y : ℕ) : Type 0 where
   -- the clock is raised
   ticks : (v : Survey) → (worker_at s w).place ≡ place.Raise v → c ≡ cell.Clock → x < s.sizes.top → y ≡ x + 1 → Changes s w c x y
   -- a head moves from the row that was read to the worker's next row
-  links : (d : Change) → (worker_at s w).place ≡ place.Link d x → c ≡ cell.Head (change_head d) → 0 < y → y ≡ next_own s w (change_kind d) → Changes s w c x y
+  links : (d : Change) → (worker_at s w).place ≡ place.Link d x → c ≡ cell.Head (change_head d) → next_own s w (change_kind d) ≡ Some y → Changes s w c x y
   -- ins or del of a linked row goes from pending to the number in hand
   stamps : (p : Purpose) → (worker_at s w).place ≡ place.Settle (stage.Swap y) p → c ≡ settled_field p → x ≡ pending → Changes s w c x y
   -- del of a linked row goes from 0 to pending
   ends : (d : Change) (r : ℕ) → (worker_at s w).place ≡ place.End d r → c ≡ cell.Stamp (change_kind d) Del r → x ≡ 0 → y ≡ pending → Changes s w c x y
   -- private: the worker's next row is filled
-  fills : (k : Kind) → 0 < next_own s w k → OfRow k (next_own s w k) c → Changes s w c x y
+  fills : (k : Kind) (r : ℕ) → next_own s w k ≡ Some r → OfRow k r c → Changes s w c x y
   -- private: the worker's page
   writes : OnPage w c → Changes s w c x y

@@ -1,5 +1,5 @@
 -- Places whose keys are keys of the opening and whose rows are linked.
-use Rattle.std.specs.Prelude.{◌≡◌, ℕ, ◌<◌, ◌≤◌, ◌⊎◌, length, Some}
+use Rattle.std.specs.Prelude.{◌≡◌, ℕ, ◌<◌, ◌≤◌, ◌⊎◌, length, Some, Ok, Err, Result}
 use Rattle.layout.specs.declared.names.Kind.{Kind}
 use Rattle.layout.specs.declared.names.Kind.TheVariants.{Vertex}
 use Rattle.layout.specs.declared.names.Head.{Head}
@@ -8,14 +8,14 @@ use Rattle.layout.specs.declared.names.Cell.TheVariants as cell
 use Rattle.layout.specs.Layout.{needed}
 use Rattle.layout.specs.Rows.{row_at}
 use Rattle.places.specs.declared.place.Pair.{Pair}
+use Rattle.places.specs.declared.place.Bound.{Bound}
 use Rattle.places.specs.declared.place.Look.{Look}
 use Rattle.places.specs.declared.place.Look.TheVariants as look
 use Rattle.places.specs.declared.place.Change.{Change}
 use Rattle.places.specs.declared.place.Change.TheVariants as change
-use Rattle.places.specs.declared.place.Found.{Found}
-use Rattle.places.specs.declared.place.Found.TheVariants.{Miss, Hit}
 use Rattle.places.specs.declared.place.Survey.{Survey}
 use Rattle.places.specs.declared.place.Survey.TheVariants.{Snapshot, Reach}
+use Rattle.places.specs.declared.place.Leg.{Leg}
 use Rattle.places.specs.declared.place.Job.{Job}
 use Rattle.places.specs.declared.place.Job.TheVariants as job
 use Rattle.places.specs.declared.place.Purpose.{Purpose}
@@ -53,10 +53,10 @@ abbrev pub FitPair : State → Pair → Type 0
 FitPair s p = IsKey s p.from × IsKey s p.to
 
 -- an edge between keys, bound to linked rows
-pub record Bound (s : State) (p : Pair) (x d : ℕ) : Type 0 where
-  pub keys : FitPair s p
-  pub source : Linked s Vertex x
-  pub target : Linked s Vertex d
+pub record FitBound (s : State) (b : Bound) : Type 0 where
+  pub keys : FitPair s b.pair
+  pub source : Linked s Vertex b.source
+  pub target : Linked s Vertex b.target
 
 abbrev pub pair_head : Pair → Head
 pair_head p = head.Edge p.from p.to
@@ -64,41 +64,40 @@ pair_head p = head.Edge p.from p.to
 abbrev pub FitLook : State → Look → Type 0
 FitLook s (look.Vertex o i) = IsKey s i
 FitLook s (look.Source o p) = FitPair s p
-FitLook s (look.Target o p x) = FitPair s p × Linked s Vertex x
-FitLook s (look.Edge o p x d) = Bound s p x d
+FitLook s (look.Target o p r) = FitPair s p × Linked s Vertex r
+FitLook s (look.Edge o b) = FitBound s b
 
 abbrev pub FitChange : State → Change → Type 0
 FitChange s (change.Vertex i) = IsKey s i
-FitChange s (change.Edge p x d) = Bound s p x d
+FitChange s (change.Edge b) = FitBound s b
 
-abbrev pub FitFound : State → Pair → Found → Type 0
-FitFound s p (Miss h) = HeldOrNone s (pair_head p) h
-FitFound s p (Hit e) = Held s (pair_head p) e
+abbrev pub FitFound : State → Pair → Result ℕ ℕ → Type 0
+FitFound s p (Ok e) = Held s (pair_head p) e
+FitFound s p (Err h) = HeldOrNone s (pair_head p) h
 
 abbrev pub FitSurvey : State → Survey → Type 0
 FitSurvey s Snapshot = Unit {0}
 FitSurvey s (Reach i) = IsKey s i
 
+abbrev pub FitLeg : State → Leg → Type 0
+FitLeg s l = IsKey s l.from × IsKey s l.to
+
 abbrev pub FitJob : State → Job → Type 0
 FitJob s (job.Key i) = IsKey s i
 FitJob s (job.Start i) = IsKey s i
-FitJob s (job.Pair x i j) = IsKey s i × IsKey s j
-FitJob s (job.Target x i j e) = IsKey s i × IsKey s j
+FitJob s (job.Pair l) = FitLeg s l
+FitJob s (job.Target l e) = FitLeg s l
 
 -- the row whose field is settled is linked
 abbrev pub FitPurpose : State → Purpose → Type 0
-FitPurpose s (purpose.LookIns l r) = FitLook s l × Held s (look_head l) r
-FitPurpose s (purpose.LookDel l r) = FitLook s l × Held s (look_head l) r
+FitPurpose s (purpose.Look f l r) = FitLook s l × Held s (look_head l) r
 FitPurpose s (purpose.Own f c r) = FitChange s c × Linked s (change_kind c) r
 FitPurpose s (purpose.LostDel c r) = FitChange s c × Held s (change_head c) r
 FitPurpose s (purpose.WonIns i r) = Linked s Vertex r
-FitPurpose s (purpose.BindAgain o p x d) = Bound s p x d
-FitPurpose s (purpose.AgainSource o p x d f) = Bound s p x d × FitFound s p f
-FitPurpose s (purpose.AgainTarget o p x d f) = Bound s p x d × FitFound s p f
-FitPurpose s (purpose.CompareSource p x d f e n) = Bound s p x d
-FitPurpose s (purpose.CompareTarget p x d f e n) = Bound s p x d
-FitPurpose s (purpose.WalkIns k r) = FitJob s k.job × Linked s (job_kind k.job) r
-FitPurpose s (purpose.WalkDel k r) = FitJob s k.job × Linked s (job_kind k.job) r
+FitPurpose s (purpose.BindAgain o b) = FitBound s b
+FitPurpose s (purpose.Again d o b f) = FitBound s b × FitFound s b.pair f
+FitPurpose s (purpose.Compare d b f e x) = FitBound s b
+FitPurpose s (purpose.Walk f k r) = FitJob s k.job × Linked s (job_kind k.job) r
 
 abbrev pub FitPlace : State → Place → Type 0
 FitPlace s place.Idle = Unit {0}

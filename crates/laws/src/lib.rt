@@ -6,29 +6,21 @@ ghost use Rattle.laws.specs.Sound.{RunsKeepLaws, RunsSound};
 ghost use Rattle.laws.specs.Stamps.{RunsStamp};
 
 // Which cells a turn can change and how, and what it leaves as it was.
-pub fn turn_laws() -> u8
+pub fn turn_laws()
     ensures { TurnsKeepLaws }
-{
-    0
-}
+{}
 
 // In every state that a list of begins and turns leads to, each place names keys and linked rows.
-pub fn runs_sound() -> u8
+pub fn runs_sound()
     ensures { RunsSound }
-{
-    0
-}
+{}
 
 // So the laws hold of every turn of every run.
-pub fn runs_keep_laws() -> u8
+pub fn runs_keep_laws()
     ensures { RunsKeepLaws }
-{
-    0
-}
+{}
 
 // In every run the clock keeps its limits, and ins and del of a linked row get at most one stamp each, which stays.
-pub fn runs_stamp() -> u8
+pub fn runs_stamp()
     ensures { RunsStamp }
-{
-    0
-}
+{}

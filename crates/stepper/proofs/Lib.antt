@@ -1,6 +1,6 @@
 mod Clearing
 mod Extending
 mod Starts
-mod Stages
+pub mod Stages
 mod Busy
 mod Giving
