@@ -5,7 +5,6 @@ use Rattle.std.proofs.lemmas.Bool.{ltb-true, and_parts}
 use Rattle.codes.specs.declared.refusal.Refusal.{Refusal}
 use Rattle.codes.specs.declared.refusal.Refusal.TheVariants.{NoSuchWorker, WorkerBusy, NoSuchCall, KeyOutside, WeightOutside}
 use Rattle.layout.specs.declared.names.Kind.{Kind}
-use Rattle.layout.specs.declared.names.Kind.TheVariants.{Vertex, Edge}
 use Rattle.layout.specs.Limits.{between}
 use Rattle.places.specs.declared.call.Begin.{Begin}
 use Rattle.places.specs.declared.place.Call.{Call}
@@ -54,10 +53,6 @@ module _ (s : State) (b : Begin) where
       let idle = ok_if (is_idle (worker_at s b.worker).place) _ WorkerBusy c there.1 in
       (ltb-true b.worker s.sizes.workers there.0, called c (free_same (worker_at s b.worker).page (call_of n b) c idle.1))
 
-  begun_count : (v : Worker) (c : Call) (k : Kind) → linked_of (begun v c) k ≡ linked_of v k
-  begun_count v c Vertex = refl
-  begun_count v c Edge = refl
-
   module _ (z : Sound s) (c : Call) (e : begun_as s b ≡ Ok c) where
     abbrev w : ℕ
     w = b.worker
@@ -73,7 +68,7 @@ module _ (s : State) (b : Begin) where
     begun_each P here there = set_each P s.workers w (begun (worker_at s w) c) nobody (omega (arith, z.table, fits.0)) here (λ v m. there v)
 
     count_same : (v : ℕ) (k : Kind) → linked_of (worker_at t v) k ≡ linked_of (worker_at s v) k
-    count_same v k = begun_each (λ u r. linked_of r k ≡ linked_of (worker_at s u) k) (begun_count (worker_at s w) c k) (λ u. refl) v
+    count_same v k = begun_each (λ u r. linked_of r k ≡ linked_of (worker_at s u) k) refl (λ u. refl) v
 
     later_begun : Later s t
     later_begun = record { sizes = refl; linked = λ v k. omega (arith, count_same v k); some = λ h m p. p }

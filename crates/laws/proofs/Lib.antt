@@ -4,6 +4,7 @@ mod Follows
 mod Entries
 mod Owned
 mod Heads
+mod Fills
 mod Touched
 mod Stays
 mod Outs

@@ -1,100 +1,34 @@
 -- A link turn: whether the swap says yes, and what the new row holds.
-use Rattle.std.proofs.Common.{◌≡◌, ℕ, ◌<◌, Bool, true, false, cond, eqb, ltb, List, length, Some, None, Option, sym, refl, ap, ◌∙◌, subst, arith}
-use Rattle.std.proofs.lemmas.List.{get_or-set_same}
+use Rattle.std.proofs.Common.{◌≡◌, ℕ, ◌<◌, Bool, true, false, eqb, List, length, Some, Option, sym, refl, ap, ◌∙◌, arith}
 use Rattle.std.proofs.lemmas.Bool.{eq-eqb, lt-ltb, both_ways}
 use Rattle.std.specs.Bool.{then_some}
-use Rattle.std.specs.Option.{is_some, unwrap_or}
+use Rattle.std.specs.Option.{is_some}
 use Rattle.layout.specs.declared.sizes.Sizes.{Sizes}
-use Rattle.layout.specs.declared.names.Kind.{Kind}
 use Rattle.layout.specs.declared.names.Field.{Field}
-use Rattle.layout.specs.declared.names.Field.TheVariants.{Ins, Del}
 use Rattle.layout.specs.declared.names.Cell.{Cell}
 use Rattle.layout.specs.declared.names.Cell.TheVariants as cell
 use Rattle.layout.specs.Layout.{index_of, Named, IsRow}
 use Rattle.layout.proofs.Regions.{index_lt}
 use Rattle.places.specs.declared.place.Change.{Change}
-use Rattle.places.specs.declared.place.Change.TheVariants as change
 use Rattle.places.specs.declared.place.Place.{Place}
 use Rattle.places.specs.declared.place.Place.TheVariants as place
 use Rattle.places.specs.declared.place.Touch.TheVariants as touch
 use Rattle.places.specs.declared.place.Next.{Next}
 use Rattle.places.specs.declared.place.Next.TheVariants as next
-use Rattle.places.specs.Marks.{pending}
 use Rattle.places.specs.Private.{link_kind}
 use Rattle.places.specs.Touches.{change_head, change_kind, link_touch, touch_of}
 use Rattle.places.specs.Nexts.{link_done as next_link, next_of}
 use Rattle.stepper.specs.States.{State}
-use Rattle.stepper.specs.Effects.{put, bound, filled, link_done, got_of, cells_after, entered}
+use Rattle.stepper.specs.Effects.{filled, link_done, got_of, cells_after, entered}
 use Rattle.stepper.specs.Turns.{worker_at, cell_at, spare_for, hand_of, next_at, turned}
 use Rattle.stepper.specs.Workers.{followed}
 use Rattle.laws.specs.Fits.{FitChange}
 use Rattle.laws.specs.Changes.{next_own, number_in}
 use Rattle.laws.specs.Stamps.{field_start}
 use Rattle.laws.proofs.Heads.{change_named}
-use Rattle.laws.proofs.Puts.{Enough, enough_set, put_at, swap_at}
+use Rattle.laws.proofs.Puts.{Enough, swap_at}
 use Rattle.laws.proofs.Owned.{next_own_lem}
-use Rattle.laws.proofs.Touched.{enough_filled, fill_at}
-
-put_same : (z : Sizes) (cs : List ℕ) (c : Cell) (v : ℕ) → Named z c → Enough z cs → cell_at z (put z cs c v) c ≡ v
-put_same z cs c v n l = get_or-set_same cs (index_of z c) v 0 (omega (arith, index_lt z c n))
-
--- binding an edge row changes its source, target and weight only
-abbrev Unbound : Cell → Type 0
-Unbound (cell.Source r) = ⊥
-Unbound (cell.Target r) = ⊥
-Unbound (cell.Weight r) = ⊥
-Unbound c = Unit {0}
-
-bound_same : (z : Sizes) (cs : List ℕ) (d : Change) (r : ℕ) (c : Cell) → Named z c → Unbound c → IsRow z (change_kind d) r → Enough z cs → cell_at z (bound z cs d r) c ≡ cell_at z cs c
-bound_same z cs (change.Vertex i) r c n u m l = refl
-bound_same z cs (change.Edge b) r c n u m l =
-    let P : ℕ → Type 0 = λ v. v ≡ cell_at z cs c in
-    let one : List ℕ = put z cs (cell.Source r) b.source in
-    let two : List ℕ = put z one (cell.Target r) b.target in
-    let l₁ : Enough z one = enough_set z cs _ b.source l in
-    put_at z P two (cell.Weight r) c (b.pair.weight) n m (enough_set z one _ b.target l₁) (λ e. absurd (subst Unbound e u))
-    (put_at z P one (cell.Target r) c b.target n m l₁ (λ e. absurd (subst Unbound e u))
-    (put_at z P cs (cell.Source r) c b.source n m l (λ e. absurd (subst Unbound e u)) refl))
-
--- what a row that is filled holds
-module _ (z : Sizes) (cs : List ℕ) (d : Change) (h r : ℕ) (n : IsRow z (change_kind d) r) (l : Enough z cs) where
-  abbrev k : Kind
-  k = change_kind d
-
-  abbrev one : List ℕ
-  one = put z cs (cell.Older k r) h
-
-  abbrev two : List ℕ
-  two = put z one (cell.Stamp k Ins r) pending
-
-  abbrev three : List ℕ
-  three = put z two (cell.Stamp k Del r) 0
-
-  enough_one : Enough z one
-  enough_one = enough_set z cs _ h l
-
-  enough_two : Enough z two
-  enough_two = enough_set z one _ pending enough_one
-
-  enough_three : Enough z three
-  enough_three = enough_set z two _ 0 enough_two
-
-  -- older is the head that was read
-  older_filled : cell_at z (filled z cs d h r) (cell.Older (change_kind d) r) ≡ h
-  older_filled =
-      let P : ℕ → Type 0 = λ v. v ≡ h in
-      bound_same z three d r (cell.Older k r) n tt n enough_three
-      ∙ put_at z P two (cell.Stamp k Del r) (cell.Older k r) 0 n n enough_two (λ e. absurd cc)
-      (put_at z P one (cell.Stamp k Ins r) (cell.Older k r) pending n n enough_one (λ e. absurd cc)
-      (put_same z cs (cell.Older k r) h n l))
-
-  -- ins is pending, del is 0
-  stamp_filled : (f : Field) → cell_at z (filled z cs d h r) (cell.Stamp (change_kind d) f r) ≡ field_start f
-  stamp_filled Ins =
-      bound_same z three d r (cell.Stamp k Ins r) n tt n enough_three
-      ∙ put_at z (λ v. v ≡ pending) two (cell.Stamp k Del r) (cell.Stamp k Ins r) 0 n n enough_two (λ e. absurd cc)
-      (put_same z one (cell.Stamp k Ins r) pending n enough_one)
-  stamp_filled Del = bound_same z three d r (cell.Stamp k Del r) n tt n enough_three ∙ put_same z two (cell.Stamp k Del r) 0 n enough_two
+use Rattle.laws.proofs.Fills.{head_filled, enough_filled, older_filled, stamp_filled}
 
 -- what follows at a place
 abbrev next_from : State → ℕ → Place → Next
@@ -110,9 +44,6 @@ module _ (s : State) (w : ℕ) (d : Change) (h : ℕ) (l : Enough s.sizes s.cell
   row : IsRow z (change_kind d) r
   row = (next_own_lem s w (change_kind d) r own).0
 
-  yes_within : (b e : Bool) → b ≡ true → unwrap_or (cond b (Some e) None) false ≡ e
-  yes_within b e t = rw t refl
-
   -- the swap says yes where the head is still the one that was read
   link_says : link_done z s.cells d h r ≡ eqb (number_in s top) h
   link_says =
@@ -120,8 +51,8 @@ module _ (s : State) (w : ℕ) (d : Change) (h : ℕ) (l : Enough s.sizes s.cell
       let c' : List ℕ = filled z s.cells d h r in
       let e : Enough z c' = enough_filled z s.cells d h r l in
       let i : index_of z top < length c' = omega (arith, index_lt z top n) in
-      let same : cell_at z c' top ≡ number_in s top = fill_at z (λ y. y ≡ number_in s top) s.cells d h r top n row l (λ b y. absurd b) refl in
-      yes_within (ltb (index_of z top) (length c')) (eqb (cell_at z c' top) h) (lt-ltb (index_of z top) (length c') i) ∙ ap (λ x. eqb x h) same
+      let same : cell_at z c' top ≡ number_in s top = head_filled z s.cells d h r row l (change_head d) n in
+      rw (lt-ltb (index_of z top) (length c') i, same) refl
 
   done_is : (b : Bool) (x : ℕ) → is_some (then_some b x) ≡ b
   done_is true x = refl

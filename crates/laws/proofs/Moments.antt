@@ -1,6 +1,5 @@
 -- Where a stamp comes from: the clock had its number while the field was pending.
-use Rattle.std.proofs.Common.{◌≡◌, ℕ, ◌<◌, ◌≤◌, ◌⊎◌, List, [], ◌∷◌, length, Some, None, Ok, Option, sym, refl, ap, ◌∙◌, subst, inl, inr, arith}
-use Rattle.codes.specs.declared.answer.Answer.{Answer}
+use Rattle.std.proofs.Common.{◌≡◌, ℕ, ◌<◌, ◌≤◌, ◌⊎◌, List, [], ◌∷◌, length, Ok, sym, refl, ap, ◌∙◌, subst, inl, inr, arith}
 use Rattle.layout.specs.declared.sizes.Sizes.{Sizes}
 use Rattle.layout.specs.declared.names.Kind.{Kind}
 use Rattle.layout.specs.declared.names.Field.{Field}
@@ -24,7 +23,7 @@ use Rattle.stepper.specs.Opening.{opened_state}
 use Rattle.stepper.specs.Turns.{worker_at, turned}
 use Rattle.stepper.specs.Requests.{begun_as, state_begun}
 use Rattle.stepper.specs.History.{Event, Traces}
-use Rattle.stepper.proofs.Stages.{Staged, StagedOr}
+use Rattle.stepper.proofs.Stages.{Staged}
 use Rattle.laws.specs.Fits.{Linked, FitPlace, FitPurpose}
 use Rattle.laws.specs.Changes.{number_in}
 use Rattle.laws.specs.Sound.{Sound}
@@ -112,20 +111,15 @@ module _ (start : State) (e : Event) (h : List Event) (s : State) (tr : Traces s
   at_moment n p f c (inl a) = inr (record { since = e ∷ []; until = h; parts = refl; state = s; traces = tr; clock = c; waited = a })
   at_moment n p f c (inr a) = inl (stamp_later start e h s (turned s w) turn_moved p f a)
 
-  read_known : (q : Place) → Staged (worker_at s w).place (got_at s w) q → Known start (e ∷ h) (turned s w) q
-  read_known (place.Settle stage.Clock p) g =
+  own_known : (q : Place) → Staged (worker_at s w).place (got_at s w) q → Known start (e ∷ h) (turned s w) q
+  own_known (place.Settle stage.Clock p) g =
       begun_later start e h s (turned s w) turn_moved p (subst (FitPlace s) g.0 (z.places w b)) (inl (sym (ap (number_at s w) g.0) ∙ g.1))
-  read_known (place.Settle (stage.Swap n) p) g =
+  own_known (place.Settle (stage.Swap n) p) g =
       at_moment n p (subst (FitPlace s) g.0 (z.places w b)) (sym (g.1 ∙ ap (number_at s w) g.0)) (subst (Known start h s) g.0 (k w b))
-  read_known (place.Settle st p) g = tt
-  read_known q g = tt
-
-  own_known : (a : Option Answer) (q : Place) → StagedOr (worker_at s w).place (got_at s w) a q → Known start (e ∷ h) (turned s w) q
-  own_known None q g = read_known q g
-  own_known (Some a) q g = subst (Known start (e ∷ h) (turned s w)) (sym g) tt
+  own_known q g = tt
 
   turn_known : AllKnown start (e ∷ h) (turned s w)
-  turn_known = turn_places s w z b (Known start (e ∷ h) (turned s w)) own_known (λ v l. known_later start e h s (turned s w) turn_moved (worker_at s v).place (z.places v l) (k v l))
+  turn_known = turn_places s w z b (Known start (e ∷ h) (turned s w)) tt own_known (λ v l. known_later start e h s (turned s w) turn_moved (worker_at s v).place (z.places v l) (k v l))
 
 -- a begin or a refusal changes no cell
 first_known : (start : State) (h : List Event) (s : State) (c : Call) → Known start h s (place_first c)

@@ -1,8 +1,8 @@
 -- A book whose queue holds keys serves keys.
-use Rattle.std.proofs.Common.{rules, ◌≡◌, ℕ, zero, suc, ◌+◌, ◌-◌, ◌*◌, ◌<◌, ◌≤◌, Bool, cond, List, length, get_or, set, replicate, Some, None, Option, sym, ap, ◌∙◌, subst, ⊎_elim}
+use Rattle.std.proofs.Common.{rules, ℕ, zero, suc, ◌+◌, ◌-◌, ◌*◌, ◌<◌, ◌≤◌, Bool, cond, List, length, get_or, set, replicate, Some, None, Option, sym, subst, ⊎_elim}
 use Rattle.std.proofs.lemmas.Nat.{mod_below}
-use Rattle.std.proofs.lemmas.List.{set_past, get_or-set_same, get_or-set_other}
-use Rattle.std.proofs.lemmas.Bool.{cases_eq, cases_lt, ltb-true, cond_both}
+use Rattle.std.proofs.lemmas.List.{set_past}
+use Rattle.std.proofs.lemmas.Bool.{cases_lt, ltb-true, cond_both}
 use Rattle.places.specs.declared.place.Survey.{Survey}
 use Rattle.places.specs.declared.place.Leg.{Leg}
 use Rattle.places.specs.declared.place.Job.{Job}
@@ -15,6 +15,7 @@ use Rattle.books.specs.Serving.{first_open, open_from, go_on, serve_from}
 use Rattle.books.specs.Walked.{Outcome, resolved, pair_walked, walked_at}
 use Rattle.stepper.specs.States.{State}
 use Rattle.laws.specs.Fits.{IsKey, FitLeg, FitJob}
+use Rattle.laws.proofs.Puts.{set_each}
 use Rattle.laws.proofs.Outs.{FitOut}
 
 abbrev pub QueueFits : ℕ → Book → Type 0
@@ -32,13 +33,9 @@ blank_queue n t p i = get_or-replicate (λ x. x < n) 64 i 0 0 p p
 set_queue : (n : ℕ) (q : List ℕ) (l k : ℕ) → ((i : ℕ) → get_or q i 0 < n) → k < n → (i : ℕ) → get_or (set q l k) i 0 < n
 set_queue n q l k f h i =
     ⊎_elim
-    (λ (e : i ≡ l).
-    ⊎_elim
-    (λ (b : l < length q). subst (λ x. x < n) (sym (ap (λ j. get_or (set q l k) j 0) e ∙ get_or-set_same q l k 0 b)) h)
+    (λ (b : l < length q). set_each (λ j x. x < n) q l k 0 b h (λ j ne. f j) i)
     (λ (b : length q ≤ l). subst (λ (x : List ℕ). get_or x i 0 < n) (sym (set_past q l k b)) (f i))
-    (cases_lt l (length q)))
-    (λ (ne : i ≡ l → ⊥). subst (λ x. x < n) (sym (get_or-set_other q l i k 0 ne)) (f i))
-    (cases_eq i l)
+    (cases_lt l (length q))
 
 joined_queue : (n : ℕ) (b : Book) (k : ℕ) → QueueFits n b → k < n → QueueFits n (joined b k)
 joined_queue n b k f h = search (rules, set_queue)

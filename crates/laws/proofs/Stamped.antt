@@ -1,7 +1,6 @@
 -- Every run keeps the clock within its limits, and ins and del of linked rows at 0, pending or a stamp.
-use Rattle.std.proofs.Common.{◌≡◌, ℕ, ◌+◌, ◌<◌, ◌≤◌, List, length, Some, None, Ok, Option, sym, refl, ap, ◌∙◌, subst, ⊎_elim, arith}
+use Rattle.std.proofs.Common.{◌≡◌, ℕ, ◌+◌, ◌<◌, ◌≤◌, List, length, Ok, sym, refl, ap, ◌∙◌, subst, ⊎_elim, arith}
 use Rattle.std.proofs.lemmas.List.{length-append, length-replicate, get_or-set_same}
-use Rattle.codes.specs.declared.answer.Answer.{Answer}
 use Rattle.layout.specs.declared.sizes.Sizes.{Sizes}
 use Rattle.layout.specs.declared.names.Kind.{Kind}
 use Rattle.layout.specs.declared.names.Field.{Field}
@@ -21,7 +20,7 @@ use Rattle.stepper.specs.Opening.{cleared, opened_state}
 use Rattle.stepper.specs.Turns.{worker_at, turned}
 use Rattle.stepper.specs.Requests.{begun_as, state_begun}
 use Rattle.stepper.specs.History.{Event, Traces}
-use Rattle.stepper.proofs.Stages.{Staged, StagedOr}
+use Rattle.stepper.proofs.Stages.{Staged}
 use Rattle.laws.specs.Fits.{Linked}
 use Rattle.laws.specs.Changes.{number_in, Changes, Changes.keeps, Changes.ticks, Changes.links, Changes.stamps, Changes.ends, Changes.fills, Changes.writes}
 use Rattle.laws.specs.Sound.{Sound}
@@ -65,13 +64,9 @@ module _ (s : State) (w : ℕ) (z : Sound s) (b : w < s.sizes.workers) (i : Stam
       (clock_changes s w (fit s w z b) x y c)
 
   -- a worker reads its number off the clock
-  read_hand : (q : Place) → Staged (worker_at s w).place (got_at s w) q → InHand s.sizes q
-  read_hand (place.Settle (stage.Swap n) p) e = subst (IsStamp s.sizes) (sym (e.1 ∙ ap (number_at s w) e.0)) i.clock
-  read_hand q e = tt
-
-  own_hand : (a : Option Answer) (q : Place) → StagedOr (worker_at s w).place (got_at s w) a q → InHand s.sizes q
-  own_hand None q e = read_hand q e
-  own_hand (Some a) q e = subst (InHand s.sizes) (sym e) tt
+  own_hand : (q : Place) → Staged (worker_at s w).place (got_at s w) q → InHand s.sizes q
+  own_hand (place.Settle (stage.Swap n) p) e = subst (IsStamp s.sizes) (sym (e.1 ∙ ap (number_at s w) e.0)) i.clock
+  own_hand q e = tt
 
   field_moves : (k : Kind) (f : Field) (r x y : ℕ) → Linked s k r → Changes s w (cell.Stamp k f r) x y → Moves s.sizes f x y
   field_moves k f r x y l (keeps e) = same e
@@ -88,7 +83,7 @@ module _ (s : State) (w : ℕ) (z : Sound s) (b : w < s.sizes.workers) (i : Stam
   turn_stamped : Stamped t
   turn_stamped = record {
     clock = clock_moves _ _ (turn_changes s w (fit s w z b) cell.Clock tt) i.clock;
-    hands = turn_places s w z b (InHand s.sizes) own_hand i.hands;
+    hands = turn_places s w z b (InHand s.sizes) tt own_hand i.hands;
     fields = λ k f r l. ⊎_elim
         (λ (o : Linked s k r). move_holds s.sizes f _ _ (turn_moves k f r o) (i.fields k f r o))
         (λ (m : New s w z b k r). start_holds s.sizes f _ (new_starts s w z b k r m f))

@@ -1,5 +1,5 @@
 -- What a turn leaves as it was.
-use Rattle.std.proofs.Common.{◌≡◌, ℕ, ◌+◌, ◌<◌, ◌⊎◌, inl, inr, ⊎_elim, Some, sym, refl, ◌∙◌, subst, arith}
+use Rattle.std.proofs.Common.{◌≡◌, ℕ, ◌+◌, ◌<◌, ◌≤◌, ◌⊎◌, inl, inr, ⊎_elim, Some, sym, refl, ◌∙◌, subst, arith}
 use Rattle.std.proofs.lemmas.List.{get_or-set_other}
 use Rattle.layout.specs.declared.names.Kind.{Kind}
 use Rattle.layout.specs.declared.names.Kind.TheVariants.{Edge}
@@ -98,6 +98,9 @@ module _ (s : State) (w : ℕ) (f : Fit s w) where
   clock_changes x y (fills k r p o) = absurd o
   clock_changes x y (writes o) = absurd o
 
+  clock_rises : (x y : ℕ) → Changes s w cell.Clock x y → x ≤ y
+  clock_rises x y c = ⊎_elim (λ (e : y ≡ x). omega arith) (λ (e : (x < s.sizes.top) × (y ≡ x + 1)). omega arith) (clock_changes x y c)
+
   pub record HeadMoves (h : Head) (x y : ℕ) : Type 0 where
     pub change : Change
     pub at_link : (worker_at s w).place ≡ place.Link change x
@@ -155,7 +158,7 @@ module _ (s : State) (w : ℕ) (f : Fit s w) where
 pub turn_laws : TurnsKeepLaws
 turn_laws s w f = record {
   changes = turn_changes s w f;
-  clock = ⊎_elim (λ (e : number_in (turned s w) cell.Clock ≡ number_in s cell.Clock). omega arith) (λ (e : (number_in s cell.Clock < s.sizes.top) × (number_in (turned s w) cell.Clock ≡ number_in s cell.Clock + 1)). omega arith) (clock_changes s w f _ _ (turn_changes s w f cell.Clock tt));
+  clock = clock_rises s w f _ _ (turn_changes s w f cell.Clock tt);
   records = λ v n. get_or-set_other s.workers w v (followed_at s w).worker nobody n;
   pages = λ v c m o n. stays s w f c m (page_safe s w f v c o n);
   unlinked = λ v k r c m o a n u. stays s w f c m (row_safe s w f v k r c o a n u);

@@ -2,7 +2,7 @@
 use Rattle.std.proofs.Common.{rules, ◌≡◌, ℕ, ◌+◌, ◌<◌, List, Some, None, Option, sym, refl, ap, ◌∙◌, subst}
 use Rattle.layout.specs.declared.sizes.Sizes.{Sizes}
 use Rattle.layout.specs.declared.names.Kind.{Kind}
-use Rattle.layout.specs.declared.names.Kind.TheVariants.{Vertex, Edge}
+use Rattle.layout.specs.declared.names.Kind.TheVariants.{Vertex}
 use Rattle.layout.specs.declared.names.Field.{Field}
 use Rattle.layout.specs.declared.names.Field.TheVariants.{Ins, Del}
 use Rattle.layout.specs.declared.names.Cell.{Cell}
@@ -12,7 +12,6 @@ use Rattle.places.specs.declared.place.Bound.{Bound}
 use Rattle.places.specs.declared.place.Side.{Side}
 use Rattle.places.specs.declared.place.Side.TheVariants.{Source, Target}
 use Rattle.places.specs.declared.place.Change.{Change}
-use Rattle.places.specs.declared.place.Change.TheVariants as change
 use Rattle.places.specs.declared.place.Stage.TheVariants as stage
 use Rattle.places.specs.declared.place.Purpose.{Purpose}
 use Rattle.places.specs.declared.place.Purpose.TheVariants as purpose
@@ -24,12 +23,13 @@ use Rattle.places.specs.Marks.{pending}
 use Rattle.places.specs.Private.{link_kind}
 use Rattle.places.specs.Touches.{side_row, look_kind, change_head, change_kind, job_kind, settled_field, link_touch, touch_of}
 use Rattle.stepper.specs.States.{State}
-use Rattle.stepper.specs.Effects.{put, bound, filled, cells_after}
+use Rattle.stepper.specs.Effects.{filled, cells_after}
 use Rattle.stepper.specs.Turns.{worker_at, cell_at, spare_for}
 use Rattle.laws.specs.Fits.{Linked, FitBound, FitChange, FitPurpose, FitPlace}
-use Rattle.laws.specs.Changes.{OfRow, next_own, number_in, Changes, Changes.keeps, Changes.ticks, Changes.links, Changes.stamps, Changes.ends, Changes.fills}
+use Rattle.laws.specs.Changes.{next_own, number_in, Changes, Changes.keeps, Changes.ticks, Changes.links, Changes.stamps, Changes.ends, Changes.fills}
 use Rattle.laws.proofs.Heads.{change_named}
-use Rattle.laws.proofs.Puts.{Enough, enough_set, put_at, swap_at, raise_at}
+use Rattle.laws.proofs.Puts.{Enough, enough_set, swap_at, raise_at}
+use Rattle.laws.proofs.Fills.{fill_at, head_filled, enough_filled}
 use Rattle.laws.proofs.Owned.{linked_row, next_own_lem}
 
 -- the field that is settled is of a linked row
@@ -58,44 +58,10 @@ settled_field_lem s (purpose.Again d o b g) f = settled_as s _ Vertex Del (side_
 settled_field_lem s (purpose.Compare d b g e x) f = settled_as s _ Vertex Del (side_row b d) refl (side_linked s b d f)
 settled_field_lem s (purpose.Walk g k r) f = settled_as s _ (job_kind k.job) g r refl f.1
 
--- filling a row changes cells of that row only
-bound_at : (z : Sizes) (P : ℕ → Type 0) (cs : List ℕ) (d : Change) (r : ℕ) (c : Cell) → Named z c → IsRow z (change_kind d) r → Enough z cs → (OfRow (change_kind d) r c → (y : ℕ) → P y) → P (cell_at z cs c) → P (cell_at z (bound z cs d r) c)
-bound_at z P cs (change.Vertex i) r c m n l row there = there
-bound_at z P cs (change.Edge b) r c m n l row there =
-    let one : List ℕ = put z cs (cell.Source r) b.source in
-    let two : List ℕ = put z one (cell.Target r) b.target in
-    let l₁ : Enough z one = enough_set z cs _ b.source l in
-    put_at z P two (cell.Weight r) c (b.pair.weight) m n (enough_set z one _ b.target l₁) (λ e. row (subst (OfRow Edge r) (sym e) (refl, refl)) _)
-    (put_at z P one (cell.Target r) c b.target m n l₁ (λ e. row (subst (OfRow Edge r) (sym e) (refl, refl)) _)
-    (put_at z P cs (cell.Source r) c b.source m n l (λ e. row (subst (OfRow Edge r) (sym e) (refl, refl)) _) there))
-
-pub enough_bound : (z : Sizes) (cs : List ℕ) (d : Change) (r : ℕ) → Enough z cs → Enough z (bound z cs d r)
-enough_bound z cs (change.Vertex i) r l = l
-enough_bound z cs (change.Edge b) r l = enough_set z _ _ _ (enough_set z _ _ _ (enough_set z cs _ b.source l))
-
-pub fill_at : (z : Sizes) (P : ℕ → Type 0) (cs : List ℕ) (d : Change) (h r : ℕ) (c : Cell) → Named z c → IsRow z (change_kind d) r → Enough z cs → (OfRow (change_kind d) r c → (y : ℕ) → P y) → P (cell_at z cs c) → P (cell_at z (filled z cs d h r) c)
-fill_at z P cs d h r c m n l row there =
-    let k : Kind = change_kind d in
-    let one : List ℕ = put z cs (cell.Older k r) h in
-    let two : List ℕ = put z one (cell.Stamp k Ins r) pending in
-    let l₁ : Enough z one = enough_set z cs _ h l in
-    let l₂ : Enough z two = enough_set z one _ pending l₁ in
-    bound_at z P (put z two (cell.Stamp k Del r) 0) d r c m n (enough_set z two _ 0 l₂) row
-    (put_at z P two (cell.Stamp k Del r) c 0 m n l₂ (λ e. row (subst (OfRow k r) (sym e) (refl, refl)) _)
-    (put_at z P one (cell.Stamp k Ins r) c pending m n l₁ (λ e. row (subst (OfRow k r) (sym e) (refl, refl)) _)
-    (put_at z P cs (cell.Older k r) c h m n l (λ e. row (subst (OfRow k r) (sym e) (refl, refl)) _) there)))
-
-pub enough_filled : (z : Sizes) (cs : List ℕ) (d : Change) (h r : ℕ) → Enough z cs → Enough z (filled z cs d h r)
-enough_filled z cs d h r l = enough_bound z _ d r (enough_set z _ _ 0 (enough_set z _ _ pending (enough_set z cs _ h l)))
-
 -- a link turn
 module _ (s : State) (w : ℕ) (c : Cell) (d : Change) (h : ℕ) (at : (worker_at s w).place ≡ place.Link d h) (m : Named s.sizes c) (l : Enough s.sizes s.cells) (f : FitChange s d) where
   abbrev P : ℕ → Type 0
   P y = Changes s w c (number_in s c) y
-
-  -- the head that is swapped is as it was before the row was filled
-  head_same : (r : ℕ) → IsRow s.sizes (change_kind d) r → cell_at s.sizes (filled s.sizes s.cells d h r) (cell.Head (change_head d)) ≡ number_in s (cell.Head (change_head d))
-  head_same r n = fill_at s.sizes (λ y. y ≡ number_in s (cell.Head (change_head d))) s.cells d h r (cell.Head (change_head d)) (change_named s d f) n l (λ b y. absurd b) refl
 
   linked_at : (r : ℕ) → next_own s w (change_kind d) ≡ Some r → Changes s w c (number_in s c) (cell_at s.sizes (cells_after s.sizes s.cells (touch.Link d h r)) c)
   linked_at r q =
@@ -103,9 +69,9 @@ module _ (s : State) (w : ℕ) (c : Cell) (d : Change) (h : ℕ) (at : (worker_a
       let n : IsRow s.sizes (change_kind d) r = (next_own_lem s w (change_kind d) r q).0 in
       swap_at z P (filled z s.cells d h r) (cell.Head (change_head d)) c h r m (change_named s d f) (enough_filled z s.cells d h r l)
       (λ e v.
-      let x : number_in s c ≡ h = ap (number_in s) e ∙ sym (head_same r n) ∙ v in
+      let x : number_in s c ≡ h = ap (number_in s) e ∙ sym (head_filled s.sizes s.cells d h r n l (change_head d) (change_named s d f)) ∙ v in
       links d (subst (λ y. (worker_at s w).place ≡ place.Link d y) (sym x) at) e q)
-      (fill_at z P s.cells d h r c m n l (λ o y. fills (change_kind d) r q o) (keeps refl))
+      (fill_at z s.cells d h r n l P c m (λ o y. fills (change_kind d) r q o) (keeps refl))
 
   link_at : (o : Option ℕ) → next_own s w (change_kind d) ≡ o → Changes s w c (number_in s c) (cell_at s.sizes (cells_after s.sizes s.cells (link_touch d h o)) c)
   link_at None q = keeps refl

@@ -1,12 +1,11 @@
 -- Several turns of one worker, one after another.
-use Rattle.std.proofs.Common.{◌≡◌, ℕ, zero, suc, ◌+◌, ◌<◌, Bool, true, false, cond, ltb, Some, None, Ok, Option, sym, refl, ap, ◌∙◌, subst, add-one, arith, below_more}
+use Rattle.std.proofs.Common.{◌≡◌, ℕ, zero, suc, ◌+◌, ◌<◌, Bool, true, false, cond, ltb, Some, None, Option, sym, refl, ap, ◌∙◌, subst, add-one, arith, below_more}
 use Rattle.std.proofs.lemmas.Option.{none-some}
 use Rattle.codes.specs.declared.answer.Answer.{Answer}
-use Rattle.codes.specs.declared.refusal.Refusal.{Refusal}
 use Rattle.codes.specs.declared.refusal.Refusal.TheVariants.{NoSuchWorker, WorkerIdle}
 use Rattle.stepper.specs.States.{State}
 use Rattle.stepper.specs.Turns.{worker_at, answer_at, turned}
-use Rattle.stepper.specs.Requests.{is_idle, turn_refused, answered_or, unless_refused, state_or}
+use Rattle.stepper.specs.Requests.{is_idle, turn_refused}
 use Rattle.stepper.specs.History.{Continues}
 use Rattle.stepper.specs.Several.{after, turn_events, Gave, Outcome, stopping, given, GivenGives}
 use Rattle.stepper.proofs.Busy.{turned_busy}

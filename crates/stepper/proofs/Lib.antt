@@ -1,5 +1,4 @@
 mod Clearing
-mod Bounds
 mod Extending
 mod Starts
 pub mod Stages

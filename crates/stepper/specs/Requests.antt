@@ -41,12 +41,12 @@ page_begun p (call.Survey v) = page.Unfinished
 page_begun p c = p
 
 abbrev pub begun : Worker → Call → Worker
-begun v c = record { place = place_first c; page = page_begun v.page c; serial = v.serial; vlinked = v.vlinked; elinked = v.elinked; book = v.book }
+begun v c = record v { place = place_first c; page = page_begun v.page c }
 
 -- no cell changes
 abbrev pub state_begun : State → ℕ → Result Call Refusal → State
 state_begun s w (Err e) = s
-state_begun s w (Ok c) = record { cells = s.cells; sizes = s.sizes; workers = slice_set s.workers w (begun (worker_at s w) c) }
+state_begun s w (Ok c) = record s { workers = slice_set s.workers w (begun (worker_at s w) c) }
 
 -- a turn is refused where there is no such worker, or it is idle
 abbrev pub turn_refused : State → ℕ → Option Refusal

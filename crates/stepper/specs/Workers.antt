@@ -46,7 +46,7 @@ abbrev pub more : ℕ → ℕ
 more n = min (n + 1) (2 ^ 32 - 1)
 
 abbrev pub at : Worker → Place → Worker
-at v p = record { place = p; page = v.page; serial = v.serial; vlinked = v.vlinked; elinked = v.elinked; book = v.book }
+at v p = record v { place = p }
 
 -- 30 and 31 finish a page
 abbrev pub finishes : Answer → Bool
@@ -55,7 +55,7 @@ finishes ReachTaken = true
 finishes a = false
 
 abbrev pub finished : Worker → Worker
-finished v = record { place = Idle; page = Finished; serial = more v.serial; vlinked = v.vlinked; elinked = v.elinked; book = v.book }
+finished v = record v { place = Idle; page = Finished; serial = more v.serial }
 
 -- a worker that answers is idle
 abbrev pub arrived : Worker → Out → Worker
@@ -67,11 +67,11 @@ out_answer (Continue p) = None
 out_answer (Break a) = Some a
 
 abbrev pub counted : Worker → Kind → Worker
-counted v Vertex = record { place = v.place; page = v.page; serial = v.serial; vlinked = more v.vlinked; elinked = v.elinked; book = v.book }
-counted v Edge = record { place = v.place; page = v.page; serial = v.serial; vlinked = v.vlinked; elinked = more v.elinked; book = v.book }
+counted v Vertex = record v { vlinked = more v.vlinked }
+counted v Edge = record v { elinked = more v.elinked }
 
 abbrev pub with_book : Worker → Book → Worker
-with_book v b = record { place = v.place; page = v.page; serial = v.serial; vlinked = v.vlinked; elinked = v.elinked; book = b }
+with_book v b = record v { book = b }
 
 -- what a turn makes of the record, its answer, and what goes into the page
 pub record Turned : Type 0 where

@@ -36,6 +36,7 @@ impl<M: CellMemory> Run<M> {
         ensures { opened_or M.cells result ≡ opened (M.cells memory) sizes }
     {
         let mut board = Board { memory, sizes };
+        // A refusal takes the memory with it, so no `?`.
         match board.prepare(sizes) {
             Ok(()) => Ok(Run {
                 board,

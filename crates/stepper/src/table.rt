@@ -28,7 +28,7 @@ impl Table {
         &self.workers[seat.index as usize]
     }
 
-    // One worker's record is lent for change; the others stay.
+    // No proof covers a `&mut` to an element of an array that is handed out, so a change goes through the table.
     pub(crate) fn begin(&mut self, seat: Seat, call: Call)
         ensures { self.new.workers ≡ slice_set self.old.workers seat.index (begun (slice_index_or self.old.workers seat.index nobody) call) }
     {

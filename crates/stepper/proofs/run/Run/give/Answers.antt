@@ -1,16 +1,12 @@
-use Rattle.std.proofs.Common.{arith}
 use Rattle.stepper.specs.States.{state_of}
-use Rattle.stepper.proofs.Giving.{gave_answer, gave_more, gave_all}
+use Rattle.stepper.proofs.Giving.{gave_answer, gave_more}
 use Rattle.stepper.proofs.run.Run.give.Goals as goal
 
 pub returns-in-Some : goal.returns-in-Some
 returns-in-Some g c =
-    gave_answer _ (state_of g.M.CellMemory.cells c.loop-i.self) _ c.args.seat.index c.args.n c.loop-i.i c.in-Some.answer c.loop-i-test.true c.loop-i.invariant.0 c.loop-i.invariant.1 c.in-Some.ensures.answer c.in-Some.ensures.after
+    gave_answer _ (state_of g.M.CellMemory.cells c.loop-i.self) _ _ _ _ _ c.loop-i-test.true c.loop-i.invariant.state c.loop-i.invariant.quiet c.in-Some.ensures.answer c.in-Some.ensures.after
 
 pub loop-i-preserved : goal.loop-i-preserved
 loop-i-preserved g c =
-    gave_more _ (state_of g.M.CellMemory.cells c.loop-i.self) _ c.args.seat.index c.loop-i.i c.loop-i.invariant.0 c.loop-i.invariant.1 c.in_default.ensures.answer c.in_default.ensures.after
-
-pub returns : goal.returns
-returns g c =
-    gave_all _ (state_of g.M.CellMemory.cells c.loop-i.self) c.args.seat.index c.args.n c.loop-i.i (omega arith) c.loop-i.invariant.0 c.loop-i.invariant.1
+    let more = gave_more _ (state_of g.M.CellMemory.cells c.loop-i.self) _ _ _ c.loop-i.invariant.state c.loop-i.invariant.quiet c.in_default.ensures.answer c.in_default.ensures.after in
+    record { state = more.0; quiet = more.1 }
