@@ -1,7 +1,7 @@
 -- Reading the bytes of a line, two characters for each.
-use Rattle.std.proofs.Common.{◌≡◌, ℕ, ◌+◌, ◌*◌, ◌/◌, ◌%◌, ◌<◌, ◌≤◌, List, [], ◌∷◌, ◌++◌, length, get_or, take, drop, set, Some, None, Option, zero, suc, add-one, sym, refl, ap, ◌∙◌, arith}
+use Rattle.std.proofs.Common.{◌≡◌, ℕ, ◌+◌, ◌*◌, ◌/◌, ◌%◌, ◌<◌, ◌≤◌, List, [], ◌∷◌, ◌++◌, length, get_or, take, drop, Some, None, Option, zero, suc, add-one, sym, refl, ap, ◌∙◌, arith}
 use Rattle.std.specs.Simd.{first_chunks}
-use Rattle.std.proofs.lemmas.List.{take_all, take_more_set, append_assoc, append-nil, at_drop_more, at_drop_all}
+use Rattle.std.proofs.lemmas.List.{take_all, append-nil, at_drop_more, at_drop_all}
 use Rattle.std.proofs.lemmas.Bool.Decides.{nat_tests}
 use Rattle.frames.specs.Hex.{digit_of, byte_of, joined, bytes_of}
 use Rattle.frames.specs.Frames.{frame_of, frame_in}
@@ -72,23 +72,6 @@ prefixed bs (Some more) = Some (bs ++ more)
 -- the first n of `out` are the bytes of the first n pairs
 abbrev pub Read : List (List ℕ) → List ℕ → ℕ → Type 0
 Read pairs out n = bytes_in pairs ≡ prefixed (take n out) (bytes_in (drop n pairs))
-
-pub nothing_read : (pairs : List (List ℕ)) (out : List ℕ) → Read pairs out 0
-nothing_read pairs out = prefixed_nil (bytes_in pairs)
-  where
-    prefixed_nil : (x : Option (List ℕ)) → x ≡ prefixed [] x
-    prefixed_nil None = refl
-    prefixed_nil (Some bs) = refl
-
-prefixed_more : (out : List ℕ) (n b : ℕ) (x : Option (List ℕ)) → n < length out → prefixed (take n out) (joined (Some b) x) ≡ prefixed (take (n + 1) (set out n b)) x
-prefixed_more out n b None h = refl
-prefixed_more out n b (Some bs) h =
-    ap Some (sym (append_assoc (take n out) (b ∷ []) bs) ∙ ap (λ z. z ++ bs) (sym (take_more_set out n b h)))
-
-pub one_more_read : (pairs : List (List ℕ)) (out : List ℕ) (n b : ℕ) → Read pairs out n → n < length pairs → n < length out → Some b ≡ byte_in (get_or pairs n []) → Read pairs (set out n b) (n + 1)
-one_more_read pairs out n b i h l e =
-    i ∙ ap (prefixed (take n out)) (at_drop_more bytes_in pairs n [] h ∙ ap (λ z. joined z (bytes_in (drop (n + 1) pairs))) (sym e))
-    ∙ prefixed_more out n b (bytes_in (drop (n + 1) pairs)) l
 
 no_byte : (bs : List ℕ) (x : Option (List ℕ)) → prefixed bs (joined None x) ≡ None
 no_byte bs None = refl

@@ -9,21 +9,28 @@ use crate::reply::{Reply, code_byte};
 use codes::Refusal;
 use std::marker::Model;
 
-// Two or three bytes, as digits: the first `len` of them.
-#[derive(Drop)]
+// The first `len` digits; those behind them are 0.
+#[derive(Clone, Copy, PartialEq, Eq, Debug)]
 pub struct Line {
     digits: [u8; 6],
     len: usize,
 }
 
 impl Model for Line {
-    ghost use Rattle.std.specs.Prelude.{ℕ, ◌≤◌, List, take};
+    ghost use Rattle.std.specs.Prelude.{◌≡◌, ℕ, ◌-◌, ◌≤◌, List, ◌++◌, length, take, drop, replicate};
 
     ghost Value = { List ℕ };
 
     ghost view = { λ line. take line.len line.digits };
 
-    ghost invariant = { λ line. line.len ≤ 6 };
+    ghost invariant = { λ line. record { short : line.len ≤ 6; sized : length line.digits ≡ 6; blank : drop line.len line.digits ≡ replicate (6 - line.len) 0 } };
+
+    ghost inverse = { λ digits. record { digits = digits ++ replicate (6 - length digits) 0; len = length digits } };
+
+    ghost use Rattle.std.proofs.Common.{arith};
+    ghost use Rattle.std.proofs.lemmas.List.{length-take-le, take-append-drop};
+
+    ghost inverse_ok = { λ line h. Prim.rw (length-take-le line.len line.digits (Prim.omega (arith, h.short, h.sized)), ← h.blank, take-append-drop) };
 }
 
 impl Line {

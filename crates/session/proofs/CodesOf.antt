@@ -1,5 +1,5 @@
 -- One reply has one code.
-use Rattle.std.proofs.Common.{◌≡◌, Ok, Err, Result, refl, ap}
+use Rattle.std.proofs.Common.{◌≡◌, Ok, Err, Result, refl}
 use Rattle.codes.specs.declared.refusal.Refusal.{Refusal}
 use Rattle.stepper.specs.Requests.{done_or}
 use Rattle.session.specs.Answers.{code_of}
@@ -8,4 +8,4 @@ pub code_of_same : {X Y : Type 0} (r : Result X Refusal) (x : Result Y Refusal) 
 code_of_same (Ok a) (Ok b) e = refl
 code_of_same (Ok a) (Err b) e = cc
 code_of_same (Err a) (Ok b) e = cc
-code_of_same (Err a) (Err b) e = let f : a ≡ b = cc in ap Err f
+code_of_same (Err a) (Err b) e = cc

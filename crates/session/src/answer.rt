@@ -21,13 +21,15 @@ pub struct Answered<M> {
     pub reply: Reply,
 }
 
-fn begin<M: CellMemory>(run: &mut Run<M>, begin: Begin) -> Reply
-    ensures { Begins begin (state_of M.cells run.old) result (Serving (state_of M.cells run.new)) }
+// Begins a call; a refusal changes nothing.
+fn begin<M: CellMemory>(run: &mut Run<M>, begin: Begin) -> Code
+    ensures { Begins begin (state_of M.cells run.old) (Reply.ToBegin result) (Serving (state_of M.cells run.new)) }
 {
-    Reply::ToBegin(run.begin(begin).map(|()| None))
+    run.begin(begin)?;
+    Ok(None)
 }
 
-// A refused worker has used no turn.
+// Gives turns; a refused worker has used none.
 fn turns<M: CellMemory>(run: &mut Run<M>, worker: u8, count: u8) -> Reply
     ensures { Gives worker count (state_of M.cells run.old) result (Serving (state_of M.cells run.new)) }
 {
@@ -71,7 +73,7 @@ pub fn answer_open<M: CellMemory>(run: &mut Run<M>, line: &[u8]) -> Reply
 {
     match frames::parse(line) {
         Some(Frame::Turns { worker, count }) => turns(run, worker, count),
-        Some(Frame::Begin(frame)) => begin(run, frame),
+        Some(Frame::Begin(frame)) => Reply::ToBegin(begin(run, frame)),
         Some(Frame::Open(opening)) => Reply::ToOpen(reopen(run, opening)),
         Some(Frame::Take { .. }) | None => Reply::NoFrame,
     }

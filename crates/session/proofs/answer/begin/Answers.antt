@@ -7,9 +7,9 @@ use Rattle.session.specs.Desks.{Session.Running}
 use Rattle.session.proofs.CodesOf.{code_of_same}
 use Rattle.session.proofs.answer.begin.Goals as goal
 
-pub returns : goal.returns
-returns g c =
-    let m : c.map.result ≡ code_of c.begin.result = search rules in
+pub returns-in_err-begin : goal.returns-in_err-begin
+returns-in_err-begin g c =
+    let m : c.from_residual.result ≡ code_of c.begin.result = search rules in
     record {
       reply = ap ToBegin (m ∙ code_of_same c.begin.result (begun_as (state_of g.M.CellMemory.cells c.args.run.now) c.args.begin) c.begin.ensures.answer);
       session = ap Running c.begin.ensures.after;
