@@ -24,11 +24,7 @@ fn key_at(keys: usize, k: usize) -> Option<usize>
 fn pair_at(keys: usize, i: usize, j: usize) -> Option<usize>
     ensures { result ≡ pair_at keys i j }
 {
-    if keys <= 64 && i < keys && j < keys {
-        Some(keys + keys * i + j)
-    } else {
-        None
-    }
+    (keys <= 64 && i < keys && j < keys).then(|| keys + keys * i + j)
 }
 
 fn key_of(word: &str) -> Result<usize, Fault> {

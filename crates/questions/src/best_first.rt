@@ -70,6 +70,7 @@ fn write<T: From<Option<u32>> + Copy>(labels: &[Label], out: &mut [T])
     requires { length labels.now ≤ length out.old }
     ensures { Written T.from_gives labels.now (length labels.now) out.old out.new }
 {
+    // Of a loop over `out.iter_mut().zip(labels)` a proof knows no element that it leaves, so this loop indexes.
     for (k, label) in labels.iter().enumerate() {
         out[k] = T::from(label.value);
     }
