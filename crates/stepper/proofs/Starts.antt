@@ -1,4 +1,4 @@
--- What a settled field or a walk that has ended leads to: an answer, or a place that is in a call and not amid settling a field.
+-- What follows outside the stages of settling a field: an answer, or a place that is in a call and at no later stage of settling.
 use Rattle.std.proofs.Common.{rules, ℕ, Bool, true, false, Some, None, Ok, Err, Option, Result}
 use Rattle.std.specs.declared.ops.ControlFlow.TheVariants.{Continue, Break}
 use Rattle.layout.specs.declared.names.Field.{Field}
