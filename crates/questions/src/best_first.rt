@@ -9,7 +9,7 @@ use crate::unanswered::{Unanswered, asked};
 use crate::view::GraphView;
 
 // What the search knows of a key: the best value of the walks found so far, and whether the key is listed.
-#[derive(Clone, Copy, PartialEq, Eq, Debug)]
+#[derive(Clone, Copy, PartialEq, Eq, Debug, Default)]
 pub struct Label {
     pub value: Option<u32>,
     pub listed: bool,
@@ -87,10 +87,7 @@ pub fn answer<G: GraphView, M: Measure, T: From<Option<u32>> + Copy>(
 {
     asked(page, start, out.len())?;
     let n = page.len();
-    let mut labels = [Label {
-        value: None,
-        listed: false,
-    }; 64];
+    let mut labels = [Label::default(); 64];
     let labels = &mut labels[..n];
     search::<G, M>(page, start, labels);
     write(labels, out);
