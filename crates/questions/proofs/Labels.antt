@@ -45,9 +45,14 @@ module _ (xs : List Label) (k : ℕ) (y : Label) where
     | inr z ↦ (let s = listed_other j z in grind (arith, nat_tests))
   ]
 
--- labels that are all blank
-pub blank_part : (i n k : ℕ) → (value_at (take i (replicate n blank)) k ≡ None) × (listed_at (take i (replicate n blank)) k ≡ false)
-blank_part i n k = let e = part_of_copies i n k blank in (ap (λ (x : Label). x.value) e, ap (λ (x : Label). x.listed) e)
+is_blank : (y : Label) → (y.value ≡ None) × (y.listed ≡ false) → y ≡ blank
+is_blank y (a, b) = λ i. record { value = a i; listed = b i }
 
-pub length_part : (i n : ℕ) → i ≤ n → length (take i (replicate n blank)) ≡ i
-length_part i n h = omega (arith, length-take i (replicate n blank), length-replicate n blank)
+-- labels that are all blank
+pub blank_part : (i n : ℕ) (y : Label) → (y.value ≡ None) × (y.listed ≡ false) → (k : ℕ) →
+    (value_at (take i (replicate n y)) k ≡ None) × (listed_at (take i (replicate n y)) k ≡ false)
+blank_part i n y b k =
+    rw (is_blank y b) (let e = part_of_copies i n k blank in (ap (λ (x : Label). x.value) e, ap (λ (x : Label). x.listed) e))
+
+pub length_part : (i n : ℕ) (y : Label) → i ≤ n → length (take i (replicate n y)) ≡ i
+length_part i n y h = omega (arith, length-take i (replicate n y), length-replicate n y)

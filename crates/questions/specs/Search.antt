@@ -12,7 +12,7 @@ value_at xs k = (slice_index_or xs k (record { value = None; listed = false })).
 abbrev pub listed_at : List Label → ℕ → Bool
 listed_at xs k = (slice_index_or xs k (record { value = None; listed = false })).listed
 
--- a flag for each key
+-- the flag of a key
 abbrev pub flag : List Bool → ℕ → Bool
 flag bs k = slice_index_or bs k false
 

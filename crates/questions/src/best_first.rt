@@ -9,7 +9,7 @@ use crate::unanswered::{Unanswered, asked};
 use crate::view::GraphView;
 
 // What the search knows of a key: the best value of the walks found so far, and whether the key is listed.
-#[derive(Clone, Copy, PartialEq, Eq, Debug)]
+#[derive(Clone, Copy, PartialEq, Eq, Debug, Default)]
 pub struct Label {
     pub value: Option<u32>,
     pub listed: bool,
@@ -65,7 +65,7 @@ fn search<G: GraphView, M: Measure>(page: &G, start: usize, labels: &mut [Label]
     }
 }
 
-// Writes the value of each label to the front of `out`, in the form of an entry there.
+// Writes the value of each label to the front of `out`, in any form that is made of an option.
 fn write<T: From<Option<u32>> + Copy>(labels: &[Label], out: &mut [T])
     requires { length labels.now ≤ length out.old }
     ensures { Written T.from_gives labels.now (length labels.now) out.old out.new }
@@ -76,7 +76,7 @@ fn write<T: From<Option<u32>> + Copy>(labels: &[Label], out: &mut [T])
     }
 }
 
-// Writes the entry of each key into `out`, in the form of an entry there.
+// Answers as `best` does, in any form that is made of an option.
 pub fn answer<G: GraphView, M: Measure, T: From<Option<u32>> + Copy>(
     page: &G,
     start: usize,
@@ -87,10 +87,7 @@ pub fn answer<G: GraphView, M: Measure, T: From<Option<u32>> + Copy>(
 {
     asked(page, start, out.len())?;
     let n = page.len();
-    let mut labels = [Label {
-        value: None,
-        listed: false,
-    }; 64];
+    let mut labels = [Label::default(); 64];
     let labels = &mut labels[..n];
     search::<G, M>(page, start, labels);
     write(labels, out);

@@ -1,4 +1,4 @@
-// The entry of a key in an answer, in the form that C has of it.
+// The entry of a key in an answer, for C, which has no option.
 ghost use Rattle.std.specs.Prelude.{◌≡◌};
 ghost use Rattle.questions.specs.Entries.{entry_of};
 
