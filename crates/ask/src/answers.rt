@@ -16,8 +16,8 @@ fn answers_from(page: &Page, start: usize) -> Result<Answers, Unanswered> {
     let mut total = [None; 64];
     let mut weakest = [None; 64];
     let count = order(page, start, &mut listed)?;
-    best::<Page<'_>, Total>(page, start, &mut total)?;
-    best::<Page<'_>, Weakest>(page, start, &mut weakest)?;
+    best::<Page<'_>, Total, Option<u32>>(page, start, &mut total)?;
+    best::<Page<'_>, Weakest, Option<u32>>(page, start, &mut weakest)?;
     Ok(Answers {
         listed,
         count,

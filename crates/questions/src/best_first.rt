@@ -76,8 +76,9 @@ fn write<T: From<Option<u32>> + Copy>(labels: &[Label], out: &mut [T])
     }
 }
 
-// Answers as `best` does, in any form that is made of an option.
-pub fn answer<G: GraphView, M: Measure, T: From<Option<u32>> + Copy>(
+// Writes the entry of each key into `out`, in any form that is made of an option: the best value of the walks from `start` to the
+// key, or none where there is no walk.
+pub fn best<G: GraphView, M: Measure, T: From<Option<u32>> + Copy>(
     page: &G,
     start: usize,
     out: &mut [T],
@@ -92,16 +93,4 @@ pub fn answer<G: GraphView, M: Measure, T: From<Option<u32>> + Copy>(
     search::<G, M>(page, start, labels);
     write(labels, out);
     Ok(())
-}
-
-// Writes the entry of each key into `out`: the best value of the walks from `start` to it, or none where there is no walk.
-pub fn best<G: GraphView, M: Measure>(
-    page: &G,
-    start: usize,
-    out: &mut [Option<u32>],
-) -> Result<(), Unanswered>
-    ensures answer { Refuses (unanswered (G.keys page.now) (G.graph page.now) start (length out.old)) result }
-    ensures after { AnsweredOr result (λ entry written. written ≡ entry) M.scale (G.graph page.now) (G.keys page.now) start out.old out.new }
-{
-    answer::<G, M, Option<u32>>(page, start, out)
 }

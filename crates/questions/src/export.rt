@@ -6,7 +6,7 @@ ghost use Rattle.questions.specs.Unanswered.{Refuses};
 ghost use Rattle.questions.specs.Order.{OrderedOr};
 ghost use Rattle.questions.specs.Export.{unanswered_on, EntriesOr};
 
-use crate::best_first::answer;
+use crate::best_first::best;
 use crate::breadth_first::order;
 use crate::entry::Entry;
 use crate::measure::{Measure, Total, Weakest};
@@ -36,7 +36,7 @@ fn best_of<M: Measure>(
     ensures after { EntriesOr result M.scale cells.now keys start out.old out.new }
 {
     let page = Page::try_new(cells, keys)?;
-    answer::<Page<'_>, M, Entry>(&page, start, out)
+    best::<Page<'_>, M, Entry>(&page, start, out)
 }
 
 pub fn questions_total(

@@ -1,7 +1,7 @@
 use Rattle.std.proofs.Common.{◌≡◌, length, ◌∙◌, arith}
 use Rattle.questions.specs.Search.{value_at}
 use Rattle.questions.proofs.Labels.{blank_part, length_part}
-use Rattle.questions.proofs.best_first.answer.Goals as goal
+use Rattle.questions.proofs.best_first.best.Goals as goal
 
 pub search-requires-clause-blank : goal.search-requires-clause-blank
 search-requires-clause-blank g c = blank_part _ 64 _ c.default-labels.ensures
