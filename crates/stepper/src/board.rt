@@ -11,9 +11,9 @@ use layout::names::Cell;
 use layout::sizes::Sizes;
 
 #[derive(Drop)]
-pub(crate) struct Board<M> {
-    pub(crate) memory: M,
-    pub(crate) sizes: Sizes,
+pub struct Board<M> {
+    pub memory: M,
+    pub sizes: Sizes,
 }
 
 // A name past the end reads as 0, and sets nothing.

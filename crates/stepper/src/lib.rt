@@ -2,7 +2,7 @@
 #![tactic(auto)]
 
 pub mod begin;
-pub(crate) mod board;
+pub mod board;
 pub mod laws;
 pub mod open;
 pub mod perform;

@@ -37,7 +37,7 @@ impl<M: CellMemory> Board<M> {
     }
 
     // Does one touch, and says what it gave.
-    pub(crate) fn perform(&mut self, touch: Touch) -> Got
+    pub fn perform(&mut self, touch: Touch) -> Got
         ensures answer { result ≡ got_of self.old.sizes (M.cells self.old.memory) touch }
         ensures after { M.cells self.new.memory ≡ cells_after self.old.sizes (M.cells self.old.memory) touch }
         ensures sizes { self.new.sizes ≡ self.old.sizes }
@@ -52,7 +52,7 @@ impl<M: CellMemory> Board<M> {
     }
 
     // Writes into a worker's page.
-    pub(crate) fn enter(&mut self, w: u8, entry: Entry)
+    pub fn enter(&mut self, w: u8, entry: Entry)
         ensures after { M.cells self.new.memory ≡ entered self.old.sizes w (M.cells self.old.memory) entry }
         ensures sizes { self.new.sizes ≡ self.old.sizes }
     {
