@@ -19,6 +19,7 @@ fn decode<'a>(line: &[u8], out: &'a mut [u8; LONGEST]) -> Option<&'a [u8]>
         return None;
     };
     let bytes = out.get_mut(..pairs.len())?;
+    // By index: a proof knows nothing of what is written through a zip.
     for (i, [high, low]) in pairs.iter().enumerate() {
         bytes[i] = byte(*high, *low)?;
     }
