@@ -3,6 +3,7 @@ use crate::table::text;
 use questions::{GraphView, Page, Total, Unanswered, Weakest, best, order};
 use std::io;
 
+// A page has at most 64 keys. Over arrays the only error is why there is no answer; a vector would add another sort.
 #[derive(Drop)]
 struct Answers {
     listed: [u8; 64],

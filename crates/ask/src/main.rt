@@ -17,6 +17,7 @@ fn read_sheet(rt: &HostRuntime) -> anyhow::Result<Sheet> {
     let mut sheet = Sheet::new(heap);
     for (number, line) in (1u64..).zip(rt.lines(heap)) {
         let line = line?;
+        // Making the text can fail too, so no `map_err`.
         if let Err(fault) = sheet.read(heap, line.as_str()) {
             return Err(anyhow!(format!(in heap; "line {number}: {fault}")?));
         }

@@ -3,7 +3,7 @@ use questions::GraphView;
 use std::alloc::{AllocError, Global};
 use std::io;
 
-// A number, or a point where there is none.
+// A number, or a point where there is none; a string, since its length gives the width.
 pub fn text(heap: Global, value: Option<u32>) -> Result<String, AllocError> {
     match value {
         Some(v) => format!(in heap; "{v}"),

@@ -11,6 +11,7 @@ use Rattle.places.specs.declared.place.Job.{Job}
 use Rattle.places.specs.declared.place.Job.TheVariants as job
 use Rattle.places.specs.declared.place.Place.TheVariants.{WalkHead}
 use Rattle.books.specs.declared.book.Book.{Book}
+use Rattle.books.specs.Books.{shown_of}
 
 -- the answer of a finished page
 abbrev pub survey_done : Survey → Answer
@@ -19,7 +20,7 @@ survey_done (Reach i) = ReachTaken
 
 -- a snapshot walks pairs of two visible keys, a reach all pairs of the key it serves; no key is paired with itself
 abbrev pub open_pair : Book → Survey → ℕ → ℕ → Bool
-open_pair b Snapshot i j = not (i == j) && (not (slice_index b.keys i == 0) && not (slice_index b.keys j == 0))
+open_pair b Snapshot i j = not (i == j) && (not (shown_of b i == 0) && not (shown_of b j == 0))
 open_pair b (Reach s) i j = not (i == j)
 
 -- pair number x is of the (x / n)-th key to serve and the key x % n

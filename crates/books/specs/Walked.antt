@@ -1,5 +1,5 @@
 -- What follows when a walk has come to its end.
-use Rattle.std.specs.Prelude.{ℕ, ◌+◌, Bool, false, cond, not, ◌||◌, ◌==◌, nat_lt, slice_index}
+use Rattle.std.specs.Prelude.{ℕ, ◌+◌, Bool, false, cond, not, ◌||◌, ◌==◌, nat_lt}
 use Rattle.codes.specs.declared.answer.Answer.TheVariants.{VertexAbsent}
 use Rattle.std.specs.declared.ops.ControlFlow.TheVariants.{Continue, Break}
 use Rattle.places.specs.Outs.{Out}
@@ -11,7 +11,7 @@ use Rattle.places.specs.declared.place.Job.TheVariants as job
 use Rattle.places.specs.declared.place.Walk.{Walk}
 use Rattle.places.specs.declared.place.Hand.{Hand}
 use Rattle.places.specs.declared.place.Place.TheVariants.{WalkHead}
-use Rattle.books.specs.Books.{row_of, is_seen, with_row, joined}
+use Rattle.books.specs.Books.{shown_of, row_of, is_seen, with_row, joined}
 use Rattle.books.specs.Serving.{serve_from}
 use Rattle.books.specs.declared.book.Book.{Book}
 use Rattle.books.specs.declared.walked.Entry.{Entry}
@@ -58,7 +58,7 @@ joins (Reach i) shown = shown == 0
 abbrev pub resolved : Book → Survey → ℕ → Leg → Hand → Outcome
 resolved b v n l h =
     cond (h.target == row_of b l.to)
-    (cond (joins v (slice_index b.keys l.to))
+    (cond (joins v (shown_of b l.to))
     (record { book = joined b l.to; out = serve_from (joined b l.to) v n (l.number + 1); entry = entry.Join l.from l.to h.weight (row_of b l.to) })
     (record { book = b; out = serve_from b v n (l.number + 1); entry = entry.Pair l.from l.to h.weight }))
     (record { book = b; out = serve_from b v n (l.number + 1); entry = entry.Nothing })
@@ -66,7 +66,7 @@ resolved b v n l h =
 -- A pair: a visible row whose source is the served key's row leads to a walk of its target, once in the call.
 abbrev pub pair_walked : Book → Survey → ℕ → Leg → ℕ → Hand → Outcome
 pair_walked b v n l r h =
-    cond (r == 0 || not (h.source == slice_index b.keys l.from))
+    cond (r == 0 || not (h.source == shown_of b l.from))
     (record { book = b; out = serve_from b v n (l.number + 1); entry = entry.Nothing })
     (cond (is_seen b l.to)
     (resolved b v n l h)

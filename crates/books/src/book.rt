@@ -1,15 +1,20 @@
 // The keys that a snapshot or reach has walked, with the row then visible, and the keys to serve, in the order in which they joined.
 ghost use Rattle.std.specs.Prelude.{◌≡◌, slice_index};
-ghost use Rattle.books.specs.Books.{blank, row_of, is_seen, with_row, joined};
+ghost use Rattle.books.specs.Books.{blank, shown_of, found_of, row_of, is_seen, with_row, joined};
 
-// `keys` holds what the page shows of each key. `rows` holds what the walk of a key found, or None before it:
-// row number 0 is none, as in the cells. A key that has had its walk and did not join is in `rows`, and not in `keys`.
+// What a book holds of a key: what the page shows of it, and what its walk found, or None before its walk. Row number 0 is none, as
+// in the cells. A key that has had its walk and did not join is not shown.
+#[derive(Clone, Copy, PartialEq, Eq, Debug)]
+pub struct KeyState {
+    pub shown: u32,
+    pub found: Option<u32>,
+}
+
 // `queue` with `len` has a fixed size: a record lies in an array of Copy records, with no heap.
 #[derive(Clone, Copy, PartialEq, Eq, Debug)]
 pub struct Book {
     pub t: u32,
-    pub keys: [u32; 64],
-    pub rows: [Option<u32>; 64],
+    pub keys: [KeyState; 64],
     pub queue: [u8; 64],
     pub len: u8,
 }
@@ -20,8 +25,10 @@ impl Book {
     {
         Book {
             t,
-            keys: [0; 64],
-            rows: [None; 64],
+            keys: [KeyState {
+                shown: 0,
+                found: None,
+            }; 64],
             queue: [0; 64],
             len: 0,
         }
@@ -29,23 +36,30 @@ impl Book {
 
     // What the page shows of a key.
     pub fn key(&self, k: u8) -> u32
-        ensures { result ≡ slice_index self.now.keys k }
+        ensures { result ≡ shown_of self.now k }
     {
-        self.keys.get(k as usize).copied().unwrap_or(0)
+        self.keys.get(k as usize).map_or(0, |key| key.shown)
+    }
+
+    // What the walk of a key found, or None before its walk.
+    fn found(&self, k: u8) -> Option<u32>
+        ensures { result ≡ found_of self.now k }
+    {
+        self.keys.get(k as usize).and_then(|key| key.found)
     }
 
     // The visible row that the walk of a key found.
     pub fn row(&self, k: u8) -> u32
         ensures { result ≡ row_of self.now k }
     {
-        self.rows.get(k as usize).copied().flatten().unwrap_or(0)
+        self.found(k).unwrap_or(0)
     }
 
     // Whether a key has had its walk.
     pub fn is_seen(&self, k: u8) -> bool
         ensures { result ≡ is_seen self.now k }
     {
-        self.rows.get(k as usize).copied().flatten().is_some()
+        self.found(k).is_some()
     }
 
     // The key that is served n-th.
@@ -61,7 +75,7 @@ impl Book {
     {
         // Of a slice that `get_mut` lent a proof knows no element.
         if k < 64 {
-            self.rows[k as usize] = Some(row);
+            self.keys[k as usize].found = Some(row);
         }
     }
 
@@ -73,7 +87,7 @@ impl Book {
             let row = self.row(k);
             // Of a slice that `get_mut` lent a proof knows no element.
             if k < 64 {
-                self.keys[k as usize] = row;
+                self.keys[k as usize].shown = row;
             }
             self.queue[self.len as usize] = k;
             self.len += 1;

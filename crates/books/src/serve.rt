@@ -17,6 +17,7 @@ pub fn survey_done(survey: Survey) -> Answer
     }
 }
 
+// The survey is the worker's and the sizes are the run's: a struct of both would be made anew for each call, so they come apart.
 impl Book {
     // The pair with a number.
     fn pair(&self, sizes: Sizes, x: usize) -> (u8, u8)

@@ -119,7 +119,7 @@ impl Book {
         }
     }
 
-    // `row` is the visible row; row number 0 is none, as in the cells.
+    // `row` is the visible row; row number 0 is none, as in the cells. One arm for each clause of `walked_at`, so a match.
     pub fn walked(&mut self, walk: Walk, sizes: Sizes, row: u32, hand: Hand) -> Served
         ensures { outcome self.new result ≡ walked_of self.old walk sizes.keys row hand }
     {

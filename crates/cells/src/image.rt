@@ -78,7 +78,7 @@ impl<'a> CellMemory for Image<'a> {
     }
 }
 
-// Each byte is a number of 8 bits. A proof learns it only of a slice that is a parameter.
+// Each byte is a number of 8 bits; the words have a bound of their own. A proof learns it only of a slice that is a parameter.
 fn each_fits(bytes: &[u8])
     ensures { (i : ℕ) → slice_index bytes.now i < 256 }
 {

@@ -6,7 +6,7 @@ ghost use Rattle.cells.specs.Cells.{within, read_of, swap_of, swapped, raise_of,
 pub trait CellMemory {
     ghost cells: { Self → List ℕ };
 
-    // What the memory holds beside its cells.
+    // What the memory holds beside its cells. That it stays is a fact about two moments, so each change says it.
     ghost spare: { Self → List ℕ };
 
     fn len(&self) -> usize

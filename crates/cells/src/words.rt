@@ -36,7 +36,7 @@ impl<'a> CellMemory for Words<'a> {
     }
 }
 
-// Each word is a number of 32 bits. A proof learns it only of a slice that is a parameter.
+// Each word is a number of 32 bits; the bytes have a bound of their own. A proof learns it only of a slice that is a parameter.
 fn each_fits(words: &[u32])
     ensures { (i : ℕ) → slice_index words.now i < 2 ^ 32 }
 {

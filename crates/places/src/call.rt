@@ -5,7 +5,7 @@ ghost use Rattle.places.specs.Calls.{op_of, call_of, place_first};
 use crate::place::{Call, Look, Op, Pair, Place, Survey};
 use codes::Refusal;
 
-// What a begin names.
+// What a begin names, as the frame has it: the number of the call becomes a `Call` in `call_of`, once.
 #[derive(Clone, Copy, PartialEq, Eq, Debug)]
 pub struct Begin {
     pub worker: u8,

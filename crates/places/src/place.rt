@@ -21,7 +21,7 @@ pub struct Pair {
     pub weight: u32,
 }
 
-// The two calls that make a page.
+// The two calls that make a page. As an Option neither would have a name.
 #[derive(Clone, Copy, PartialEq, Eq, Debug)]
 pub enum Survey {
     Snapshot,
@@ -71,6 +71,7 @@ pub enum Look {
     Edge(Op, Bound),
 }
 
+// What is changed: a vertex, or a bound edge. Neither is an error, so no Result.
 #[derive(Clone, Copy, PartialEq, Eq, Debug)]
 pub enum Change {
     Vertex(u8),
@@ -151,7 +152,8 @@ pub enum Touch {
 // What the operation gave: the number that the cell held, where the operation was done.
 pub type Got = Option<u32>;
 
-// What the worker has at hand without a turn: its next row, the number of its raise, and what never changes of the row in hand.
+// What the worker has at hand without a turn: its next row, the number of its raise, and what never changes of the row in hand. It
+// comes beside a row in many functions, and that row may be another one.
 #[derive(Clone, Copy, PartialEq, Eq, Debug)]
 pub struct Hand {
     pub spare: Option<u32>,

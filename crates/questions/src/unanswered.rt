@@ -7,6 +7,7 @@ use crate::view::GraphView;
 use codes::{Answer, Refusal};
 use std::fmt;
 
+// An absent start is a reason of its own, so no Option of a refusal.
 #[derive(Clone, Copy, PartialEq, Eq, Debug)]
 pub enum Unanswered {
     Refused(Refusal),

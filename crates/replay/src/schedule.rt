@@ -16,6 +16,7 @@ pub fn replay<M: CellMemory + Drop>(memory: M, text: &[u8], out: &mut [u8]) -> u
     let mut desk = Desk::Closed(memory);
     let mut rest = text;
     let mut n = 0;
+    // A loop over `split_inclusive` in a generic function gets no proof.
     while !rest.is_empty() {
         let (line, behind) = split(rest);
         // A run answers where it is: no line moves it.
@@ -26,6 +27,7 @@ pub fn replay<M: CellMemory + Drop>(memory: M, text: &[u8], out: &mut [u8]) -> u
             desk = answered.desk;
             answered.reply
         };
+        // What was written so far is the answer, so no `?`.
         let Some(end) = put(out, n, reply) else {
             return n;
         };

@@ -29,7 +29,7 @@ fn begin<M: CellMemory>(run: &mut Run<M>, begin: Begin) -> Code
     Ok(None)
 }
 
-// Gives turns; a refused worker has used none.
+// Gives turns. A refused worker has used none, so a refusal has a count beside it and no `?` passes it on.
 fn turns<M: CellMemory>(run: &mut Run<M>, worker: u8, count: u8) -> Reply
     ensures { Gives worker count (state_of M.cells run.old) result (Serving (state_of M.cells run.new)) }
 {

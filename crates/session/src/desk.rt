@@ -1,4 +1,4 @@
-// A run that is open, or the memory for one.
+// A run that is open, or the memory for one. Neither is an error, so no Result.
 use stepper::run::Run;
 
 #[derive(Drop)]

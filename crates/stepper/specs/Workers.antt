@@ -31,7 +31,7 @@ fresh = record { place = Idle; page = Unfinished; serial = 0; vlinked = 0; elink
 
 -- there is no record past the table; a look there gives this one
 abbrev pub nobody : Worker
-nobody = record { place = Idle; page = Unfinished; serial = 0; vlinked = 0; elinked = 0; book = record { t = 0; keys = []; rows = []; queue = []; len = 0 } }
+nobody = record { place = Idle; page = Unfinished; serial = 0; vlinked = 0; elinked = 0; book = record { t = 0; keys = []; queue = []; len = 0 } }
 
 abbrev pub fresh_table : List Worker
 fresh_table = replicate 8 fresh

@@ -16,7 +16,8 @@ pub struct Board<M> {
     pub sizes: Sizes,
 }
 
-// A name past the end reads as 0, and sets nothing.
+// A name past the end reads as 0, and sets nothing. That the sizes stay is a fact about two moments, which a ghost field cannot state,
+// so each change says it.
 impl<M: CellMemory> Board<M> {
     pub(crate) fn get(&self, cell: Cell) -> u32
         ensures { result ≡ cell_at self.now.sizes (M.cells self.now.memory) cell }

@@ -36,7 +36,7 @@ impl<M: CellMemory> Board<M> {
         self.swap(Cell::Head(change.head()), head, row)
     }
 
-    // Does one touch, and says what it gave.
+    // Does one touch, and says what it gave. One arm for each clause of `got_of`, so a match and no table of closures.
     pub fn perform(&mut self, touch: Touch) -> Got
         ensures answer { result ≡ got_of self.old.sizes (M.cells self.old.memory) touch }
         ensures after { M.cells self.new.memory ≡ cells_after self.old.sizes (M.cells self.old.memory) touch }
@@ -51,7 +51,7 @@ impl<M: CellMemory> Board<M> {
         }
     }
 
-    // Writes into a worker's page.
+    // Writes into a worker's page. One arm for each clause of `entered`, so a match and no table of closures.
     pub fn enter(&mut self, w: u8, entry: Entry)
         ensures after { M.cells self.new.memory ≡ entered self.old.sizes w (M.cells self.old.memory) entry }
         ensures sizes { self.new.sizes ≡ self.old.sizes }

@@ -2,6 +2,7 @@
 use codes::{Answer, Refusal};
 use places::call::Begin;
 
+// One variant for each sort of request. Neither is an error, so no Result.
 #[derive(Clone, Copy, PartialEq, Eq, Debug)]
 pub enum Request {
     Begin(Begin),
