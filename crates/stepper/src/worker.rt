@@ -1,6 +1,6 @@
 // What is kept of each worker beside the cells.
 ghost use Rattle.std.specs.Prelude.{◌≡◌};
-ghost use Rattle.stepper.specs.Workers.{fresh, linked_of, arrived, out_answer, counted, after_step, followed};
+ghost use Rattle.stepper.specs.Workers.{fresh, linked_of, arrived, out_answer, after_step, followed};
 
 use books::book::Book;
 use books::walked::Entry;
@@ -81,42 +81,44 @@ impl Worker {
         }
     }
 
-    // One more row of a kind is linked.
-    fn count(&mut self, kind: Kind)
-        ensures { self.new ≡ counted self.old kind }
-    {
-        match kind {
-            Kind::Vertex => self.vlinked = self.vlinked.saturating_add(1),
-            Kind::Edge => self.elinked = self.elinked.saturating_add(1),
-        }
-    }
-
-    // What a turn makes of the record.
+    // What a turn makes of the record. Each case goes on to its place: one place for all cases, found first, slows a turn by a fifth.
     pub fn follow(&mut self, sizes: Sizes, hand: Hand, next: Next) -> Step
         ensures { after_step self.new result ≡ followed sizes.keys self.old hand next }
     {
-        let (out, entry) = match next {
-            Next::Out(out) => (out, Entry::Nothing),
+        match next {
+            Next::Out(out) => Step {
+                answer: self.arrive(out),
+                entry: Entry::Nothing,
+            },
             Next::Linked(change, row) => {
-                self.count(change.kind());
-                let purpose = Purpose::Own(Field::Ins, change, row);
-                let place = Place::Settle(Stage::First, purpose);
-                (Out::Continue(place), Entry::Nothing)
+                match change.kind() {
+                    Kind::Vertex => self.vlinked = self.vlinked.saturating_add(1),
+                    Kind::Edge => self.elinked = self.elinked.saturating_add(1),
+                }
+                self.place = Place::Settle(Stage::First, Purpose::Own(Field::Ins, change, row));
+                Step {
+                    answer: None,
+                    entry: Entry::Nothing,
+                }
             }
             Next::Raised(survey, t) => {
                 self.book = Book::blank(t);
-                let job = survey.first();
-                let place = Place::WalkHead(Walk { survey, job });
-                (Out::Continue(place), Entry::Clear)
+                self.place = Place::WalkHead(Walk {
+                    survey,
+                    job: survey.first(),
+                });
+                Step {
+                    answer: None,
+                    entry: Entry::Clear,
+                }
             }
             Next::Walked(walk, row) => {
                 let served = self.book.walked(walk, sizes, row, hand);
-                (served.out, served.entry)
+                Step {
+                    answer: self.arrive(served.out),
+                    entry: served.entry,
+                }
             }
-        };
-        Step {
-            answer: self.arrive(out),
-            entry,
         }
     }
 }
