@@ -1,5 +1,5 @@
 // A cell memory: a list of cells of fixed length, each a number of 32 bits.
-ghost use Rattle.std.specs.Prelude.{◌≡◌, ℕ, ◌^◌, ◌<◌, List, length, slice_index, slice_set};
+ghost use Rattle.std.specs.Prelude.{◌≡◌, ℕ, ◌^◌, ◌<◌, List, [], length, slice_index, slice_set};
 ghost use Rattle.cells.specs.Cells.{within, read_of, swap_of, swapped, raise_of, raised};
 
 // A cell past the end answers none. Only the named cell changes, and a no or a none changes nothing.
@@ -7,7 +7,7 @@ pub trait CellMemory {
     ghost cells: { Self → List ℕ };
 
     // What the memory holds beside its cells. That it stays is a fact about two moments, so each change says it.
-    ghost spare: { Self → List ℕ };
+    ghost spare: { Self → List ℕ } = { λ _. [] };
 
     fn len(&self) -> usize
         ensures { result ≡ length (cells self.now) };

@@ -1,5 +1,5 @@
 // The caller's 32-bit words, a cell each.
-ghost use Rattle.std.specs.Prelude.{ℕ, ◌^◌, ◌<◌, [], slice_index};
+ghost use Rattle.std.specs.Prelude.{ℕ, ◌^◌, ◌<◌, slice_index};
 
 use crate::memory::CellMemory;
 
@@ -10,8 +10,6 @@ pub struct Words<'a> {
 
 impl<'a> CellMemory for Words<'a> {
     ghost cells = { λ s. s.words.now };
-
-    ghost spare = { λ _. [] };
 
     fn len(&self) -> usize {
         self.words.len()

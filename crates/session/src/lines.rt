@@ -10,7 +10,7 @@ use std::io::{BufRead, BufReader, Write};
 
 pub const LINE_FEED: u8 = 10;
 
-// A line that was read with its line feed, without it. The last line may have none.
+// A line without its line feed. The last line may have none.
 pub fn body(line: &[u8]) -> &[u8]
     ensures { result.now ≡ body_of line.now }
 {
@@ -19,12 +19,18 @@ pub fn body(line: &[u8]) -> &[u8]
 
 // Reads lines to the end of the input and replies to each.
 pub fn serve_lines<M: CellMemory + Drop>(rt: &HostRuntime, memory: M) -> anyhow::Result<()> {
-    let input = BufReader::new(rt.alloc(), rt.stdin())?;
+    let mut input = BufReader::new(rt.alloc(), rt.stdin())?;
     let mut output = rt.stdout();
+    let mut line = Vec::new(rt.alloc());
     let mut text = Vec::new(rt.alloc());
     let mut desk = Desk::Closed(memory);
-    for line in input.split(rt.alloc(), LINE_FEED) {
-        let answered = answer(desk, &line?);
+    // `input.split` makes a vector for each line and leaves out `body`, which says where a line ends. A loop has to end.
+    for _ in 0..u64::MAX {
+        line.clear();
+        if input.read_until(LINE_FEED, &mut line)? == 0 {
+            break;
+        }
+        let answered = answer(desk, body(&line));
         desk = answered.desk;
         text.clear();
         write_reply(&mut text, answered.reply)?;
