@@ -14,13 +14,12 @@ use questions::Page;
 
 fn read_sheet(rt: &HostRuntime) -> anyhow::Result<Sheet> {
     let heap = rt.alloc();
-    let mut sheet = Sheet::new(heap);
+    let mut sheet = Sheet::new();
     for (number, line) in (1u64..).zip(rt.lines(heap)) {
         let line = line?;
-        // Making the text can fail too, so no `map_err`.
-        if let Err(fault) = sheet.read(heap, line.as_str()) {
-            return Err(anyhow!(format!(in heap; "line {number}: {fault}")?));
-        }
+        sheet
+            .read(heap, line.as_str())
+            .map_err(|fault| anyhow!("line {number}: {fault}"))?;
     }
     Ok(sheet)
 }
@@ -28,7 +27,8 @@ fn read_sheet(rt: &HostRuntime) -> anyhow::Result<Sheet> {
 fn run(rt: &HostRuntime) -> anyhow::Result<()> {
     let sheet = read_sheet(rt)?;
     let start = sheet.start.context("the input has no start")?;
-    let page = Page::new(&sheet.cells, sheet.keys);
+    let drawn = sheet.page.context("the input has no page")?;
+    let page = Page::new(&drawn.cells, drawn.keys);
     print_page(rt, &page)?;
     print_answers(rt, &page, start)
 }

@@ -6,11 +6,18 @@ use crate::fault::Fault;
 use questions::NOTHING;
 use std::alloc::Global;
 
+// A page that is drawn: how many keys it has, and its cells.
+#[derive(Drop)]
+pub struct Drawn {
+    pub keys: usize,
+    pub cells: Vec<u32>,
+}
+
+// The first line makes the page.
 #[derive(Drop)]
 pub struct Sheet {
-    pub keys: usize,
+    pub page: Option<Drawn>,
     pub start: Option<usize>,
-    pub cells: Vec<u32>,
 }
 
 // Where the cell of the key `k` stands on a page of so many keys.
@@ -36,12 +43,32 @@ fn weight_of(word: &str) -> Result<u32, Fault> {
     weight.filter(|w| *w != NOTHING).ok_or(Fault::Weight)
 }
 
+impl Drawn {
+    // A page of so many keys, with none shown and no edge.
+    fn new(heap: Global, line: &str) -> Result<Drawn, Fault> {
+        let keys = line.trim().parse::<usize>().ok();
+        let keys = keys.filter(|n| (1..=64).contains(n)).ok_or(Fault::Size)?;
+        let mut cells = vec![in heap; 0; keys]?;
+        cells.resize(keys + keys * keys, NOTHING)?;
+        Ok(Drawn { keys, cells })
+    }
+
+    // Writes a cell, where there is such a cell.
+    fn set(&mut self, at: Option<usize>, value: u32) -> Result<(), Fault>
+        ensures { self.new.cells.items ≡ written self.old.cells.items at value }
+    {
+        let at = at.ok_or(Fault::Key)?;
+        let cell = self.cells.get_mut(at).ok_or(Fault::Key)?;
+        *cell = value;
+        Ok(())
+    }
+}
+
 impl Sheet {
-    pub fn new(heap: Global) -> Sheet {
+    pub fn new() -> Sheet {
         Sheet {
-            keys: 0,
+            page: None,
             start: None,
-            cells: Vec::new(heap),
         }
     }
 
@@ -51,14 +78,14 @@ impl Sheet {
         let Some(first) = words.next() else {
             return Ok(());
         };
-        if self.keys == 0 {
-            return self.resize(heap, line);
-        }
+        let Some(page) = &mut self.page else {
+            self.page = Some(Drawn::new(heap, line)?);
+            return Ok(());
+        };
         match first {
             "keys" => {
                 for word in words {
-                    let at = key_at(self.keys, key_of(word)?);
-                    self.set(at, 1)?;
+                    page.set(key_at(page.keys, key_of(word)?), 1)?;
                 }
                 Ok(())
             }
@@ -71,8 +98,8 @@ impl Sheet {
                 ) else {
                     return Err(Fault::Edge);
                 };
-                let at = pair_at(self.keys, key_of(i)?, key_of(j)?);
-                self.set(at, weight_of(w)?)
+                let at = pair_at(page.keys, key_of(i)?, key_of(j)?);
+                page.set(at, weight_of(w)?)
             }
             "start" => {
                 let (Some(k), None) = (words.next(), words.next()) else {
@@ -83,26 +110,5 @@ impl Sheet {
             }
             _ => Err(Fault::Word),
         }
-    }
-
-    // Makes a page of so many keys, with none shown and no edge.
-    fn resize(&mut self, heap: Global, line: &str) -> Result<(), Fault> {
-        let keys = line.trim().parse::<usize>().ok();
-        let keys = keys.filter(|n| (1..=64).contains(n)).ok_or(Fault::Size)?;
-        let mut cells = vec![in heap; 0; keys]?;
-        cells.resize(keys + keys * keys, NOTHING)?;
-        self.keys = keys;
-        self.cells = cells;
-        Ok(())
-    }
-
-    // Writes a cell, where there is such a cell.
-    fn set(&mut self, at: Option<usize>, value: u32) -> Result<(), Fault>
-        ensures { self.new.cells.items ≡ written self.old.cells.items at value }
-    {
-        let at = at.ok_or(Fault::Key)?;
-        let cell = self.cells.get_mut(at).ok_or(Fault::Key)?;
-        *cell = value;
-        Ok(())
     }
 }

@@ -62,7 +62,7 @@ impl Book {
         self.found(k).is_some()
     }
 
-    // The key that is served n-th.
+    // The key that is served n-th, of the first `len`; 0 past the end.
     pub fn queued(&self, n: usize) -> u8
         ensures { result ≡ slice_index self.now.queue n }
     {

@@ -70,25 +70,17 @@ impl Book {
         ensures { outcome self.new result ≡ resolved self.old survey sizes.keys leg hand }
     {
         let row = self.row(leg.to);
-        let start = leg.number as usize + 1;
-        if hand.target != row {
-            return Served {
-                out: self.serve(survey, sizes, start),
-                entry: Entry::Nothing,
-            };
-        }
-        match survey {
+        let entry = match survey {
+            _ if hand.target != row => Entry::Nothing,
             Survey::Reach(_) if self.key(leg.to) == 0 => {
                 self.join(leg.to);
-                Served {
-                    out: self.serve(survey, sizes, start),
-                    entry: Entry::Join(leg.from, leg.to, hand.weight, row),
-                }
+                Entry::Join(leg.from, leg.to, hand.weight, row)
             }
-            _ => Served {
-                out: self.serve(survey, sizes, start),
-                entry: Entry::Pair(leg.from, leg.to, hand.weight),
-            },
+            _ => Entry::Pair(leg.from, leg.to, hand.weight),
+        };
+        Served {
+            out: self.serve(survey, sizes, leg.number as usize + 1),
+            entry,
         }
     }
 

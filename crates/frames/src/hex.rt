@@ -2,7 +2,7 @@
 ghost use Rattle.std.specs.Prelude.{◌≡◌, ◌<◌, [], ◌∷◌};
 ghost use Rattle.frames.specs.Hex.{digit_of, byte_of, capital, hex_of};
 
-// The value of a digit, of either case.
+// The value of a digit, of either case. The library's `to_digit` takes a char and gives 32 bits, to be cut again.
 fn digit(c: u8) -> Option<u8>
     ensures { result ≡ digit_of c }
 {

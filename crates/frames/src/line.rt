@@ -9,7 +9,7 @@ use crate::reply::{Reply, code_byte};
 use codes::Refusal;
 use std::marker::Model;
 
-// The first `len` digits; those behind them are 0.
+// The first `len` digits; those behind them are 0. In fixed memory: a replay has no heap.
 #[derive(Clone, Copy, PartialEq, Eq, Debug)]
 pub struct Line {
     digits: [u8; 6],

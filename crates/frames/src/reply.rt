@@ -7,7 +7,7 @@ use codes::{Answer, Refusal};
 // How a request went. No answer: done, or still running.
 pub type Code = Result<Option<Answer>, Refusal>;
 
-// The byte of a code.
+// The byte of a code. `Result` is the library's, so no `From`.
 pub fn code_byte(code: Code) -> u8
     ensures { result ≡ code_byte code }
 {
@@ -20,6 +20,7 @@ pub fn code_byte(code: Code) -> u8
 
 #[derive(Clone, Copy, PartialEq, Eq, Debug)]
 pub enum Reply {
+    // Each takes any code, so that a code has its byte in one place.
     ToOpen(Code),
     ToBegin(Code),
     // With how many turns were used.

@@ -61,7 +61,7 @@ fn put_page(out: &mut Vec<u8>, keys: &[bool], weights: &[u32]) -> Result<(), All
     put_all(out, weights)
 }
 
-// Takes back what was written from `start` on, unless all of it was.
+// Takes back what was written from `start` on, unless all of it was. A closure that changes `out` tells a proof nothing of it.
 fn whole(out: &mut Vec<u8>, start: usize, done: Result<(), AllocError>) -> Result<(), AllocError>
     ensures same { result ≡ done }
     ensures items { out.new.items ≡ (if is_ok done then out.old.items else take start out.old.items) }

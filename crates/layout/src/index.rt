@@ -8,7 +8,7 @@ use crate::sizes::Sizes;
 use codes::Refusal;
 
 impl Sizes {
-    // The only way to make sizes.
+    // Sizes within their limits, or a refusal.
     pub fn new(
         keys: usize,
         workers: usize,

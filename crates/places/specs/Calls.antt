@@ -1,5 +1,5 @@
 -- Which call a begin asks for, why it is refused, and where the call starts.
-use Rattle.std.specs.Prelude.{ℕ, Bool, true, cond, not, ◌&&◌, Ok, Err, Result, ◌==◌, nat_le, nat_lt}
+use Rattle.std.specs.Prelude.{ℕ, Bool, true, false, cond, not, ◌&&◌, Ok, Err, Result, ◌==◌, nat_le, nat_lt}
 use Rattle.codes.specs.declared.refusal.Refusal.{Refusal}
 use Rattle.codes.specs.declared.refusal.Refusal.TheVariants.{NoSuchCall, KeyOutside, WeightOutside}
 use Rattle.layout.specs.Limits.{between}
@@ -23,6 +23,11 @@ keys_fit n b =
     cond (between 4 b.call 6) (nat_lt b.from n && (nat_lt b.to n && not (b.from == b.to)))
     (cond (b.call == 7) true (nat_lt b.from n))
 
+abbrev pub adds : Op → Bool
+adds Add = true
+adds Remove = false
+adds Contains = false
+
 -- only an add of an edge uses the weight
 abbrev pub weight_fits : Begin → Bool
 weight_fits b = cond (b.call == 4) (between 1 b.weight 1000000) true
@@ -32,6 +37,14 @@ call_named b =
     cond (nat_le b.call 3) (call.Vertex (op_of b.call) b.from)
     (cond (nat_le b.call 6) (call.Edge (op_of b.call) (record { from = b.from; to = b.to; weight = b.weight }))
     (cond (b.call == 7) (call.Survey Snapshot) (call.Survey (Reach b.from))))
+
+-- a call of an edge that does op: its keys have to differ and be keys, and the weight of an add has its limits
+abbrev pub edge_call : ℕ → Op → Begin → Result Call Refusal
+edge_call n o b =
+    cond (nat_lt b.from n && (nat_lt b.to n && not (b.from == b.to)))
+    (cond (adds o) (cond (between 1 b.weight 1000000) (Ok (call.Edge o (record { from = b.from; to = b.to; weight = b.weight }))) (Err WeightOutside))
+    (Ok (call.Edge o (record { from = b.from; to = b.to; weight = b.weight }))))
+    (Err KeyOutside)
 
 -- the first refusal that holds, or the call
 abbrev pub call_of : ℕ → Begin → Result Call Refusal

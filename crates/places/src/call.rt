@@ -1,6 +1,8 @@
 // Which call a begin asks for, and where it starts.
-ghost use Rattle.std.specs.Prelude.{◌≡◌};
-ghost use Rattle.places.specs.Calls.{op_of, call_of, place_first};
+ghost use Rattle.std.specs.Prelude.{◌≡◌, cond, nat_lt, Ok, Err};
+ghost use Rattle.codes.specs.declared.refusal.Refusal.TheVariants.{KeyOutside};
+ghost use Rattle.places.specs.declared.place.Call.TheVariants.{Vertex};
+ghost use Rattle.places.specs.Calls.{edge_call, call_of, place_first};
 
 use crate::place::{Call, Look, Op, Pair, Place, Survey};
 use codes::Refusal;
@@ -15,42 +17,52 @@ pub struct Begin {
     pub weight: u32,
 }
 
-// Calls 1 to 3 on vertices and 4 to 6 on edges: add, remove, contains.
-fn op_of(call: u8) -> Op
-    ensures { result ≡ op_of call }
-{
-    match call {
-        1 | 4 => Op::Add,
-        2 | 5 => Op::Remove,
-        _ => Op::Contains,
-    }
-}
-
 impl Begin {
+    // A call on the vertex of the first key.
+    fn on_vertex(self, op: Op, keys: usize) -> Result<Call, Refusal>
+        ensures { result ≡ cond (nat_lt self.from keys) (Ok (Vertex op self.from)) (Err KeyOutside) }
+    {
+        if self.from as usize >= keys {
+            return Err(Refusal::KeyOutside);
+        }
+        Ok(Call::Vertex(op, self.from))
+    }
+
+    // A call on the edge between two keys; only an add uses the weight.
+    fn on_edge(self, op: Op, keys: usize) -> Result<Call, Refusal>
+        ensures { result ≡ edge_call keys op self }
+    {
+        let within = (self.from as usize) < keys && (self.to as usize) < keys;
+        if !within || self.from == self.to {
+            return Err(Refusal::KeyOutside);
+        }
+        if op == Op::Add && !(1..=1_000_000).contains(&self.weight) {
+            return Err(Refusal::WeightOutside);
+        }
+        Ok(Call::Edge(
+            op,
+            Pair {
+                from: self.from,
+                to: self.to,
+                weight: self.weight,
+            },
+        ))
+    }
+
     // The call, or the first of its refusals: no such call, a used key outside, a weight outside. Unused arguments are ignored.
     pub fn call_of(self, keys: usize) -> Result<Call, Refusal>
         ensures { result ≡ call_of keys self }
     {
-        let from_within = (self.from as usize) < keys;
-        let to_within = (self.to as usize) < keys;
         match self.call {
-            1..=3 if from_within => Ok(Call::Vertex(op_of(self.call), self.from)),
-            4..=6 if from_within && to_within && self.from != self.to => {
-                if self.call == 4 && (self.weight < 1 || self.weight > 1_000_000) {
-                    return Err(Refusal::WeightOutside);
-                }
-                Ok(Call::Edge(
-                    op_of(self.call),
-                    Pair {
-                        from: self.from,
-                        to: self.to,
-                        weight: self.weight,
-                    },
-                ))
-            }
+            1 => self.on_vertex(Op::Add, keys),
+            2 => self.on_vertex(Op::Remove, keys),
+            3 => self.on_vertex(Op::Contains, keys),
+            4 => self.on_edge(Op::Add, keys),
+            5 => self.on_edge(Op::Remove, keys),
+            6 => self.on_edge(Op::Contains, keys),
             7 => Ok(Call::Survey(Survey::Snapshot)),
-            8 if from_within => Ok(Call::Survey(Survey::Reach(self.from))),
-            1..=8 => Err(Refusal::KeyOutside),
+            8 if (self.from as usize) < keys => Ok(Call::Survey(Survey::Reach(self.from))),
+            8 => Err(Refusal::KeyOutside),
             _ => Err(Refusal::NoSuchCall),
         }
     }

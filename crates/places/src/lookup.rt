@@ -131,6 +131,7 @@ impl Change {
                 bound,
                 field,
                 row,
+                // No stamp counts as 0, as in `owned`.
                 Mark::from(number).stamp().unwrap_or(0),
             )),
         }

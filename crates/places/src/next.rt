@@ -101,6 +101,7 @@ impl Place {
     pub fn next(&self, hand: Hand, got: Got) -> Next
         ensures { result ≡ next_of self.now hand got }
     {
+        // A read always gives a number; where nothing was done it counts as 0, as in `next_of`.
         match (*self, got.unwrap_or(0)) {
             (Place::Idle, _) => Next::Out(Out::Continue(Place::Idle)),
             (Place::Head(look), 0) => Next::Out(look.absent(0)),

@@ -153,7 +153,7 @@ pub enum Touch {
 pub type Got = Option<u32>;
 
 // What the worker has at hand without a turn: its next row, the number of its raise, and what never changes of the row in hand. It
-// comes beside a row in many functions, and that row may be another one.
+// comes beside a row in many functions, and is not of that row alone: the spare row and t are the worker's.
 #[derive(Clone, Copy, PartialEq, Eq, Debug)]
 pub struct Hand {
     pub spare: Option<u32>,

@@ -6,6 +6,7 @@ use crate::place::{Job, Look, Place, Purpose, Walk};
 use layout::names::{Field, Kind};
 
 impl Walk {
+    // Row number 0 is none, as in the cells.
     fn edge_row(self, row: u32) -> u32
         ensures { result ≡ job_edge self.job row }
     {

@@ -6,6 +6,16 @@ use crate::mark::PENDING;
 use crate::place::{Change, Job, Look, Place, Purpose, Stage, Touch};
 use layout::names::{Cell, Field, Head, Kind};
 
+// The kind of the rows below a head.
+fn kind_of(head: Head) -> Kind
+    ensures { result ≡ head_kind head }
+{
+    match head {
+        Head::Vertex(_) => Kind::Vertex,
+        Head::Edge(_, _) => Kind::Edge,
+    }
+}
+
 impl Look {
     fn head(self) -> Head
         ensures { result ≡ look_head self }
@@ -21,10 +31,7 @@ impl Look {
     fn kind(self) -> Kind
         ensures { result ≡ look_kind self }
     {
-        match self {
-            Look::Edge(_, _) => Kind::Edge,
-            _ => Kind::Vertex,
-        }
+        kind_of(self.head())
     }
 }
 
@@ -41,10 +48,7 @@ impl Change {
     pub fn kind(self) -> Kind
         ensures { result ≡ change_kind self }
     {
-        match self {
-            Change::Vertex(_) => Kind::Vertex,
-            Change::Edge(_) => Kind::Edge,
-        }
+        kind_of(self.head())
     }
 }
 
@@ -62,10 +66,7 @@ impl Job {
     pub fn kind(self) -> Kind
         ensures { result ≡ head_kind (job_head self) }
     {
-        match self.head() {
-            Head::Vertex(_) => Kind::Vertex,
-            Head::Edge(_, _) => Kind::Edge,
-        }
+        kind_of(self.head())
     }
 }
 

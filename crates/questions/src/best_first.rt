@@ -56,7 +56,7 @@ fn search<G: GraphView, M: Measure>(page: &G, start: usize, labels: &mut [Label]
     requires blank { (k : ℕ) → (value_at labels.old k ≡ None) × (listed_at labels.old k ≡ false) }
     ensures { (k : ℕ) → k < G.keys page.now → Entered M.scale (G.graph page.now) start k (value_at labels.new k) }
 {
-    // Every edge joins keys below `n`.
+    // For the loop's invariant: every edge joins keys below `n`.
     let n = page.len();
     labels[start].value = Some(M::first());
     while let Some((k, value)) = pick::<M>(labels) {

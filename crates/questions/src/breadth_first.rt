@@ -64,7 +64,7 @@ fn spread<G: GraphView>(page: &G, start: usize, out: &mut [u8], listed: &mut [bo
     requires by_index { (k : ℕ) → flag listed.old k ≡ false }
     ensures { Ordered (G.graph page.now) start result out.old out.new }
 {
-    // Every edge joins keys below `n`.
+    // For the loop's invariant: every edge joins keys below `n`.
     let n = page.len();
     let mut listing = Listing::new(out);
     listing.push(start);

@@ -14,7 +14,7 @@ pub struct Page<'a> {
 }
 
 impl<'a> Page<'a> {
-    // Where there are not 1 to 64 keys, or the cells are not as many as so many keys take, the page has no keys.
+    // Cells that make no page give a page with no keys, for callers with no refusal to pass on.
     pub fn new(cells: &'a [u32], keys: usize) -> Page<'a>
         ensures cells { result.cells.now ≡ cells.now }
         ensures keys { result.keys ≡ keys_of cells.now keys }

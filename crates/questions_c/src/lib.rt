@@ -27,6 +27,7 @@ pub extern "C" fn questions_order(
     ensures answer { result ≡ answer_byte cells.now keys start (length out.old) }
     ensures after { OrderedAt result cells.now keys start out.old out.new count.old count.new }
 {
+    // A closure that writes the count tells a proof nothing of it, so no `map`.
     match questions::questions_order(cells, keys, start, out) {
         Ok(listed) => {
             *count = listed;

@@ -19,7 +19,7 @@ pub fn replay<M: CellMemory + Drop>(memory: M, text: &[u8], out: &mut [u8]) -> u
     // A loop over `split_inclusive` in a generic function gets no proof.
     while !rest.is_empty() {
         let (line, behind) = split(rest);
-        // A run answers where it is: no line moves it.
+        // A run answers where it is, since moving it for each line costs time.
         let reply = if let Desk::Open(run) = &mut desk {
             answer_open(run, line)
         } else {

@@ -51,6 +51,7 @@ fn reopen<M: CellMemory>(run: &mut Run<M>, opening: Opening) -> Code
 fn open<M: CellMemory>(memory: M, opening: Opening) -> Answered<M>
     ensures { Opens opening (Waiting (M.cells memory)) result.reply (session_of M.cells result.desk) }
 {
+    // The memory goes along with a refusal, so no `?`.
     let opened = match Sizes::try_from(opening) {
         Ok(sizes) => Run::open(memory, sizes),
         Err(refusal) => Err((memory, refusal)),

@@ -8,6 +8,7 @@ use crate::worker::{Step, Worker};
 use layout::sizes::Sizes;
 use places::place::{Call, Hand, Next};
 
+// Eight records in fixed memory, with no heap.
 #[derive(Clone, Copy, PartialEq, Eq, Debug)]
 pub struct Table {
     pub workers: [Worker; 8],

@@ -81,7 +81,7 @@ impl Worker {
         }
     }
 
-    // What a turn makes of the record. Each case goes on to its place: one place for all cases, found first, slows a turn by a fifth.
+    // What a turn makes of the record. Each case sets the place itself: one text for all cases behind the match slows a turn by a fifth.
     pub fn follow(&mut self, sizes: Sizes, hand: Hand, next: Next) -> Step
         ensures { after_step self.new result ≡ followed sizes.keys self.old hand next }
     {
