@@ -16,7 +16,7 @@ LINES = [
     (1, "flag or mark with a value beside", r"^ +pub (done|seen|mark): "),
     (1, "refusal as a number or in an Option", r"-> Option<Refusal>|(Refusal::\w+|why)\.code\(\)[,;]|: &mut usize,"),
     (1, "Ok, Err, Some or None only passed on", r"(Err|Some)\((refusal|_|why)\) => (return )?(Err\(|Reply::|why)|^ *let (Some|\(Some)[^{]*else \{|^ *let Ok[^{]*else \{"),
-    (1, "0 in place of none", r"unwrap_or\(0\)|^ +(None|_) => 0,|else \{ 0 \}"),
+    (1, "0 in place of none", r"(unwrap|map)_or\(0[,)]|^ +(None|_) => 0,|else \{ 0 \}|\{ 0 \} else|keys: 0\b"),
     (3, "loop", r"^ *(while|for) "),
     (3, "length tested and then indexed", r"if \w+ < (64|self\.\w+\.len\(\)|self\.count\(\)) \{|\[0\.\.\w+ - 1\]"),
     (4, "conversion by hand", r"fn (code|byte|of|stamp|value_of|key_of|weight_of|answer_code|sizes_of)\("),
