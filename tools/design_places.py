@@ -4,7 +4,7 @@
     python3 tools/design_places.py [POINT]      e.g. 1, or 3
 
 Each line is `POINT name: file:line: text`; the last lines count them. What a match is worth is for a reader to judge.
-Twins (point 2) are not found by patterns: `duplicates --min-lines 4 --most 60` lists runs of lines that stand twice.
+Twins (point 2) are not found by patterns: `duplicates --min-lines 4 --most 80` lists runs of lines that stand twice.
 """
 import collections
 import glob

@@ -78,6 +78,7 @@ impl Sheet {
         let Some(first) = words.next() else {
             return Ok(());
         };
+        // No page yet is no error.
         let Some(page) = &mut self.page else {
             self.page = Some(Drawn::new(heap, line)?);
             return Ok(());
@@ -90,6 +91,7 @@ impl Sheet {
                 Ok(())
             }
             "edge" => {
+                // One pattern of all the words, so no `ok_or` for each.
                 let (Some(i), Some(j), Some(w), None) = (
                     words.next(),
                     words.next(),
@@ -102,6 +104,7 @@ impl Sheet {
                 page.set(at, weight_of(w)?)
             }
             "start" => {
+                // One pattern of all the words, so no `ok_or` for each.
                 let (Some(k), None) = (words.next(), words.next()) else {
                     return Err(Fault::Start);
                 };

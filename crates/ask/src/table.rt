@@ -11,7 +11,7 @@ pub fn text(heap: Global, value: Option<u32>) -> Result<String, AllocError> {
     }
 }
 
-// The width of the widest weight, and of a key.
+// The width of the widest weight, and of a key. Over pairs of keys, and making a text can fail, so no `max` of an iterator.
 fn width<G: GraphView>(heap: Global, page: &G) -> Result<usize, AllocError> {
     let mut widest = 2usize;
     for i in 0..page.len() {

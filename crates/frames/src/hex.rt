@@ -14,7 +14,7 @@ fn digit(c: u8) -> Option<u8>
     }
 }
 
-// The byte of two digits.
+// The byte of two digits: two values, so no `From`.
 pub fn byte(high: u8, low: u8) -> Option<u8>
     ensures { result ≡ byte_of (digit_of high) (digit_of low) }
 {

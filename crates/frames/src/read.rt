@@ -8,7 +8,7 @@ use crate::hex::byte;
 use layout::opening::Opening;
 use places::call::Begin;
 
-// The bytes of the longest frame.
+// The bytes of the longest frame, in fixed memory: a replay has no heap.
 const LONGEST: usize = 11;
 
 // The bytes of a line, put into `out`; none where they are no frame.

@@ -88,6 +88,7 @@ pub fn best<G: GraphView, M: Measure, T: From<Option<u32>> + Copy>(
 {
     asked(page, start, out.len())?;
     let n = page.len();
+    // A page has at most 64 keys: fixed memory, no heap.
     let mut labels = [Label::default(); 64];
     let labels = &mut labels[..n];
     search::<G, M>(page, start, labels);

@@ -87,6 +87,7 @@ pub fn order<G: GraphView>(page: &G, start: usize, out: &mut [u8]) -> Result<usi
 {
     asked(page, start, out.len())?;
     let n = page.len();
+    // A page has at most 64 keys: fixed memory, no heap.
     let mut listed = [false; 64];
     Ok(spread(page, start, out, &mut listed[..n]))
 }

@@ -1,5 +1,5 @@
 // The questions over the cells of a page. The crate questions_c exports them for a C program, so their names and
-// parameters are those that C has.
+// parameters are those that C has, but for the count, which is in the result.
 ghost use Rattle.std.specs.Prelude.{◌≡◌, length};
 ghost use Rattle.questions.specs.Measures.{total_scale, weakest_scale};
 ghost use Rattle.questions.specs.Pages.{shown};

@@ -46,7 +46,8 @@ impl fmt::Display for Unanswered {
     }
 }
 
-// Whether a question from `start`, with an area of so many entries, can be answered.
+// Whether a question from `start`, with an area of so many entries, can be answered. The page is lent and the start is a number: a
+// struct of both would be made anew for each call.
 pub fn asked<G: GraphView>(page: &G, start: usize, area: usize) -> Result<(), Unanswered>
     ensures { Refuses (unanswered (G.keys page.now) (G.graph page.now) start area) result }
 {

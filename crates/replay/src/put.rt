@@ -12,7 +12,7 @@ pub fn put(out: &mut [u8], at: usize, reply: Reply) -> Option<usize>
 {
     let line = reply.line();
     let line = line.as_slice();
-    // Of a slice that `get_mut` lends a proof knows no element, so the room is tested.
+    // After a write through `get_mut` a proof knows no element of the area, so the room is tested.
     if out.len() - at <= line.len() {
         return None;
     }

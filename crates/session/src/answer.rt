@@ -68,7 +68,7 @@ fn open<M: CellMemory>(memory: M, opening: Opening) -> Answered<M>
     }
 }
 
-// The reply to a line while a run is open.
+// The reply to a line while a run is open. One arm for each sort of frame, as in `Replies`, so a match.
 pub fn answer_open<M: CellMemory>(run: &mut Run<M>, line: &[u8]) -> Reply
     ensures { Replies (Serving (state_of M.cells run.old)) (frame_in (bytes_of line.now)) result (Serving (state_of M.cells run.new)) }
 {

@@ -1,4 +1,4 @@
-// Replies to a schedule on standard input, over 4,096 cells of words.
+// Replies to a schedule on standard input, over 4,096 cells of words. A program of its own: each program is run on one input.
 #![tactic(auto)]
 
 ghost use Rattle.std.specs.Prelude.{◌≡◌, replicate};
