@@ -1,34 +1,30 @@
--- What a search of the numbers from one on found is the first pair to walk.
-use Rattle.std.proofs.Common.{◌≡◌, ℕ, zero, suc, ◌+◌, ◌-◌, ◌*◌, ◌<◌, ◌≤◌, true, false, Some, None, Option, MatchOption, option_map, ⊎_elim, refl, sym, subst, arith}
-use Rattle.std.proofs.lemmas.Bool.{cases_lt}
+-- The pairs from number x on, one at a time.
+use Rattle.std.proofs.Common.{◌≡◌, ℕ, suc, ◌+◌, ◌-◌, ◌*◌, ◌/◌, ◌%◌, ◌<◌, true, false, cond, Some, refl, arith, slice_index, suc-mul}
+use Rattle.std.proofs.Math.Numerals.{add-one}
+use Rattle.std.proofs.lemmas.Nat.{div-mul-add, mod-mul-add}
 use Rattle.places.specs.declared.place.Survey.{Survey}
 use Rattle.places.specs.declared.place.Job.TheVariants as job
-use Rattle.books.specs.Serving.{first_open, open_at, leg_at, open_from}
+use Rattle.books.specs.Serving.{open_pair, open_at, leg_at, open_from}
 use Rattle.books.specs.declared.book.Book.{Book}
 
-module _ (b : Book) (v : Survey) (n : ℕ) where
-  abbrev pub Shut : ℕ → ℕ → Type 0
-  Shut x e = (k : ℕ) → x ≤ k → k < e → open_at b v n k ≡ false
+-- pair number x is the one to walk, or the next ones are tried
+open_from_next : (b : Book) (v : Survey) (n x : ℕ) → x < n * b.len → open_from b v n x ≡ cond (open_at b v n x) (Some (job.Pair (leg_at b n x))) (open_from b v n (x + 1))
+open_from_next b v n x l = let e : n * b.len - x ≡ suc (n * b.len - (x + 1)) = omega arith in rw e refl
 
-  none_open : (d x : ℕ) → Shut x (x + d) → first_open b v n d x ≡ None
-  none_open zero x h = refl
-  none_open (suc d) x h = rw (h x (omega arith) (omega arith)) (none_open d (x + 1) (λ k l m. h k (omega arith) (omega arith)))
+-- pair number x is of the key i at place k of the queue, and key j
+module _ (b : Book) (v : Survey) (n k i j x : ℕ) (queued : i ≡ slice_index b.queue k) (key : j < n) (number : x ≡ k * n + j) where
+  place_is : x / n ≡ k
+  place_is = rw number (div-mul-add k n j key)
 
-  one_open : (d x i : ℕ) → x ≤ i → i < x + d → open_at b v n i ≡ true → Shut x i → first_open b v n d x ≡ Some (job.Pair (leg_at b n i))
-  one_open zero x i l m t h = absurd (omega arith)
-  one_open (suc d) x i l m t h =
-      ⊎_elim
-      (λ (o : x < i). rw (h x (omega arith) o) (one_open d (x + 1) i (omega arith) (omega arith) t (λ k p q. h k (omega arith) q)))
-      (λ (o : i ≤ x). let e : i ≡ x = omega arith in subst (λ k. first_open b v n (suc d) k ≡ Some (job.Pair (leg_at b n i))) e (rw t refl))
-      (cases_lt x i)
+  key_is : x % n ≡ j
+  key_is = rw number (mod-mul-add k n j key)
 
-  abbrev pub IsFirst : ℕ → Option ℕ → Type 0
-  IsFirst x r = MatchOption r (Shut x (n * b.len)) (λ i. (x ≤ i) × (i < n * b.len) × (open_at b v n i ≡ true) × Shut x i)
+  pub open_taken : x < n * b.len → true ≡ open_pair b v i j → Some (job.Pair (record { number = x; from = i; to = j })) ≡ open_from b v n x
+  open_taken l o = rw (open_from_next b v n x l, place_is, key_is, ← queued, ← o) refl
 
-  -- the pair with that number, or none
-  pub first_found : (x : ℕ) (r s : Option ℕ) → IsFirst x r → r ≡ s → option_map (λ i. job.Pair (leg_at b n i)) s ≡ open_from b v n x
-  first_found x r None f e = let h = subst (IsFirst x) e f in sym (none_open (n * b.len - x) x (λ k l m. h k l (omega arith)))
-  first_found x r (Some i) f e = let h = subst (IsFirst x) e f in sym (one_open (n * b.len - x) x i h.0 (omega (arith, h.0, h.1)) h.2 h.3)
+  pub open_skipped : x < n * b.len → false ≡ open_pair b v i j → open_from b v n (x + 1) ≡ open_from b v n x
+  open_skipped l o = rw (open_from_next b v n x l, place_is, key_is, ← queued, ← o) refl
 
-  pub below : (x i : ℕ) (r : Option ℕ) → IsFirst x r → r ≡ Some i → i < n * b.len
-  below x i r f e = (subst (IsFirst x) e f).1
+-- after the last key of a place comes the first of the next one
+pub next_place : (n k j x : ℕ) → x ≡ k * n + j → j + 1 ≡ n → x + 1 ≡ (k + 1) * n + 0
+next_place n k j x e f = let m : (k + 1) * n ≡ k * n + n = rw (add-one k) (suc-mul k n) in omega arith

@@ -2,6 +2,7 @@
 use Rattle.std.specs.Prelude.{ℕ, zero, suc, ◌+◌, ◌-◌, ◌*◌, ◌/◌, ◌%◌, Bool, cond, not, ◌&&◌, Some, None, Option, ◌==◌, slice_index}
 use Rattle.codes.specs.declared.answer.Answer.{Answer}
 use Rattle.codes.specs.declared.answer.Answer.TheVariants.{SnapshotTaken, ReachTaken}
+use Rattle.std.specs.declared.ops.ControlFlow.{ControlFlow}
 use Rattle.std.specs.declared.ops.ControlFlow.TheVariants.{Continue, Break}
 use Rattle.places.specs.Outs.{Out}
 use Rattle.places.specs.declared.place.Survey.{Survey}
@@ -47,10 +48,15 @@ first_open b v n (suc d) x =
 abbrev pub open_from : Book → Survey → ℕ → ℕ → Option Job
 open_from b v n x = first_open b v n (n * b.len - x) x
 
+-- on to the first turn of a walk, or the answer
+abbrev pub walk_or : Survey → ControlFlow Answer Job → Out
+walk_or v (Continue j) = Continue (WalkHead (record { survey = v; job = j }))
+walk_or v (Break a) = Break a
+
 -- the keys are served in the order in which they joined, each with the others rising; after the last the page is finished
 abbrev pub go_on : Survey → Option Job → Out
 go_on v None = Break (survey_done v)
-go_on v (Some j) = Continue (WalkHead (record { survey = v; job = j }))
+go_on v (Some j) = walk_or v (Continue j)
 
 abbrev pub serve_from : Book → Survey → ℕ → ℕ → Out
 serve_from b v n x = go_on v (open_from b v n x)

@@ -10,9 +10,8 @@ use Rattle.places.specs.declared.place.Job.{Job}
 use Rattle.places.specs.declared.place.Job.TheVariants as job
 use Rattle.places.specs.declared.place.Walk.{Walk}
 use Rattle.places.specs.declared.place.Hand.{Hand}
-use Rattle.places.specs.declared.place.Place.TheVariants.{WalkHead}
 use Rattle.books.specs.Books.{shown_of, row_of, is_seen, with_row, joined}
-use Rattle.books.specs.Serving.{serve_from}
+use Rattle.books.specs.Serving.{walk_or, serve_from}
 use Rattle.books.specs.declared.book.Book.{Book}
 use Rattle.books.specs.declared.walked.Entry.{Entry}
 use Rattle.books.specs.declared.walked.Entry.TheVariants as entry
@@ -24,21 +23,21 @@ pub record Outcome : Type 0 where
   pub out : Out
   pub entry : Entry
 
-abbrev pub outcome : Book → Served → Outcome
-outcome b s = record { book = b; out = s.out; entry = s.entry }
+abbrev pub outcome : Survey → Book → Served → Outcome
+outcome v b s = record { book = b; out = walk_or v s.flow; entry = s.entry }
 
 abbrev pub walk_of : Survey → Job → Out
-walk_of v j = Continue (WalkHead (record { survey = v; job = j }))
+walk_of v j = walk_or v (Continue j)
 
 -- a key that has had its walk joins
 abbrev pub walked_joined : Book → ℕ → ℕ → Book
 walked_joined b k r = joined (with_row b k r) k
 
 -- A key of a snapshot: its row enters the page, and the next key is walked; after the last one the pairs are.
-abbrev pub key_walked : Book → ℕ → ℕ → ℕ → Outcome
-key_walked b n k r = record {
+abbrev pub key_walked : Book → Survey → ℕ → ℕ → ℕ → Outcome
+key_walked b v n k r = record {
   book = walked_joined b k r;
-  out = cond (nat_lt (k + 1) n) (walk_of Snapshot (job.Key (k + 1))) (serve_from (walked_joined b k r) Snapshot n 0);
+  out = cond (nat_lt (k + 1) n) (walk_of v (job.Key (k + 1))) (serve_from (walked_joined b k r) v n 0);
   entry = entry.Key k r;
 }
 
@@ -73,7 +72,7 @@ pair_walked b v n l r h =
     (record { book = b; out = walk_of v (job.Target l r); entry = entry.Nothing }))
 
 abbrev pub walked_at : Book → Survey → Job → ℕ → ℕ → Hand → Outcome
-walked_at b v (job.Key k) n r h = key_walked b n k r
+walked_at b v (job.Key k) n r h = key_walked b v n k r
 walked_at b v (job.Start k) n r h = start_walked b v n k r
 walked_at b v (job.Pair l) n r h = pair_walked b v n l r h
 walked_at b v (job.Target l e) n r h = resolved (with_row b l.to r) v n l h

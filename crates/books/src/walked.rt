@@ -5,7 +5,8 @@ ghost use Rattle.books.specs.Walked.{outcome, key_walked, start_walked, pair_wal
 use crate::book::Book;
 use codes::Answer;
 use layout::sizes::Sizes;
-use places::place::{Hand, Job, Leg, Out, Place, Survey, Walk};
+use places::place::{Hand, Job, Leg, Survey, Walk};
+use std::ops::ControlFlow;
 
 // What is written into the page: nothing; zeros; a key's row; a pair's weight; a pair's weight, and the row of its target, which joins.
 #[derive(Clone, Copy, PartialEq, Eq, Debug)]
@@ -17,57 +18,54 @@ pub enum Entry {
     Join(u8, u8, u32, u32),
 }
 
+// On to the next walk or the answer, and what is written into the page.
 #[derive(Clone, Copy, PartialEq, Eq, Debug)]
 pub struct Served {
-    pub out: Out,
+    pub flow: ControlFlow<Answer, Job>,
     pub entry: Entry,
 }
 
 impl Book {
     // A key of a snapshot: its row enters the page, and the next key is walked.
-    fn key_walked(&mut self, sizes: Sizes, key: u8, row: u32) -> Served
-        ensures { outcome self.new result ≡ key_walked self.old sizes.keys key row }
+    fn key_walked(&mut self, survey: Survey, sizes: Sizes, key: u8, row: u32) -> Served
+        ensures { outcome survey self.new result ≡ key_walked self.old survey sizes.keys key row }
     {
         self.walk(key, row);
         self.join(key);
         let entry = Entry::Key(key, row);
         if key as usize + 1 < sizes.keys {
-            let job = Job::Key(key + 1);
             return Served {
-                out: Out::Continue(Place::WalkHead(Walk {
-                    survey: Survey::Snapshot,
-                    job,
-                })),
+                flow: ControlFlow::Continue(Job::Key(key + 1)),
                 entry,
             };
         }
         Served {
-            out: self.serve(Survey::Snapshot, sizes, 0),
+            flow: self.serve(survey, sizes, 0),
             entry,
         }
     }
 
     // The start of a reach: the first to join.
     fn start_walked(&mut self, survey: Survey, sizes: Sizes, key: u8, row: u32) -> Served
-        ensures { outcome self.new result ≡ start_walked self.old survey sizes.keys key row }
+        ensures { outcome survey self.new result ≡ start_walked self.old survey sizes.keys key row }
     {
         if row == 0 {
             return Served {
-                out: Out::Break(Answer::VertexAbsent),
+                flow: ControlFlow::Break(Answer::VertexAbsent),
                 entry: Entry::Nothing,
             };
         }
         self.walk(key, row);
         self.join(key);
         Served {
-            out: self.serve(survey, sizes, 0),
+            flow: self.serve(survey, sizes, 0),
             entry: Entry::Key(key, row),
         }
     }
 
     // The target of a visible edge row has had its walk: the edge is there if its target row is the visible one.
     fn resolve(&mut self, survey: Survey, sizes: Sizes, leg: Leg, hand: Hand) -> Served
-        ensures { outcome self.new result ≡ resolved self.old survey sizes.keys leg hand }
+        ensures { outcome survey self.new result ≡ resolved self.old survey sizes.keys leg hand }
     {
         let row = self.row(leg.to);
         let entry = match survey {
@@ -79,7 +77,7 @@ impl Book {
             _ => Entry::Pair(leg.from, leg.to, hand.weight),
         };
         Served {
-            out: self.serve(survey, sizes, leg.number as usize + 1),
+            flow: self.serve(survey, sizes, leg.number as usize + 1),
             entry,
         }
     }
@@ -93,30 +91,29 @@ impl Book {
         row: u32,
         hand: Hand,
     ) -> Served
-        ensures { outcome self.new result ≡ pair_walked self.old survey sizes.keys leg row hand }
+        ensures { outcome survey self.new result ≡ pair_walked self.old survey sizes.keys leg row hand }
     {
         if row == 0 || hand.source != self.key(leg.from) {
             return Served {
-                out: self.serve(survey, sizes, leg.number as usize + 1),
+                flow: self.serve(survey, sizes, leg.number as usize + 1),
                 entry: Entry::Nothing,
             };
         }
         if self.is_seen(leg.to) {
             return self.resolve(survey, sizes, leg, hand);
         }
-        let job = Job::Target(leg, row);
         Served {
-            out: Out::Continue(Place::WalkHead(Walk { survey, job })),
+            flow: ControlFlow::Continue(Job::Target(leg, row)),
             entry: Entry::Nothing,
         }
     }
 
     // `row` is the visible row; row number 0 is none, as in the cells. One arm for each clause of `walked_at`, so a match.
     pub fn walked(&mut self, walk: Walk, sizes: Sizes, row: u32, hand: Hand) -> Served
-        ensures { outcome self.new result ≡ walked_of self.old walk sizes.keys row hand }
+        ensures { outcome walk.survey self.new result ≡ walked_of self.old walk sizes.keys row hand }
     {
         match walk.job {
-            Job::Key(key) => self.key_walked(sizes, key, row),
+            Job::Key(key) => self.key_walked(walk.survey, sizes, key, row),
             Job::Start(key) => self.start_walked(walk.survey, sizes, key, row),
             Job::Pair(leg) => self.pair_walked(walk.survey, sizes, leg, row, hand),
             Job::Target(leg, _) => {

@@ -6,8 +6,7 @@ use Rattle.layout.specs.declared.names.Kind.{Kind}
 use Rattle.layout.specs.declared.names.Kind.TheVariants.{Vertex, Edge}
 use Rattle.places.specs.declared.place.Hand.{Hand}
 use Rattle.places.specs.declared.place.Place.TheVariants as place
-use Rattle.places.specs.declared.place.Next.{Next}
-use Rattle.places.specs.declared.place.Next.TheVariants as next
+use Rattle.places.specs.Moved.{Next, Next as next}
 use Rattle.places.specs.Outs.{Out}
 use Rattle.places.specs.Touches.{change_kind}
 use Rattle.books.specs.Walked.{Outcome, walked_of}

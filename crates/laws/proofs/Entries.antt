@@ -9,8 +9,7 @@ use Rattle.places.specs.declared.place.Hand.{Hand}
 use Rattle.places.specs.declared.place.Purpose.TheVariants as purpose
 use Rattle.places.specs.declared.place.Place.{Place}
 use Rattle.places.specs.declared.place.Place.TheVariants as place
-use Rattle.places.specs.declared.place.Next.{Next}
-use Rattle.places.specs.declared.place.Next.TheVariants as next
+use Rattle.places.specs.Moved.{Next, Next as next}
 use Rattle.places.specs.Nexts.{next_of}
 use Rattle.books.specs.declared.book.Book.{Book}
 use Rattle.books.specs.Books.{with_row}

@@ -23,8 +23,7 @@ use Rattle.places.specs.declared.place.Place.{Place}
 use Rattle.places.specs.declared.place.Place.TheVariants as place
 use Rattle.places.specs.declared.place.Survey.{Survey}
 use Rattle.places.specs.declared.place.Survey.TheVariants.{Snapshot, Reach}
-use Rattle.places.specs.declared.place.Next.{Next}
-use Rattle.places.specs.declared.place.Next.TheVariants as next
+use Rattle.places.specs.Moved.{Next, Next as next}
 use Rattle.places.specs.Outs.{Out}
 use Rattle.places.specs.Private.{link_kind}
 use Rattle.places.specs.Touches.{head_kind, look_head, change_head, change_kind, job_head, job_kind, touch_of}

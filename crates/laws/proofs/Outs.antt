@@ -9,8 +9,6 @@ use Rattle.layout.specs.declared.names.Field.{Field}
 use Rattle.layout.specs.declared.names.Field.TheVariants.{Ins, Del}
 use Rattle.layout.specs.declared.names.Head.TheVariants as head
 use Rattle.layout.specs.declared.names.Cell.TheVariants as cell
-use Rattle.places.specs.declared.mark.Mark.{Mark}
-use Rattle.places.specs.declared.mark.Mark.TheVariants.{NotEnded, Stamp}
 use Rattle.places.specs.declared.place.Op.{Op}
 use Rattle.places.specs.declared.place.Op.TheVariants.{Add, Remove, Contains}
 use Rattle.places.specs.declared.place.Pair.{Pair}
@@ -29,12 +27,11 @@ use Rattle.places.specs.declared.place.Purpose.{Purpose}
 use Rattle.places.specs.declared.place.Purpose.TheVariants as purpose
 use Rattle.places.specs.declared.place.Place.{Place}
 use Rattle.places.specs.declared.place.Place.TheVariants as place
-use Rattle.places.specs.declared.place.Next.{Next}
-use Rattle.places.specs.declared.place.Next.TheVariants as next
-use Rattle.places.specs.Marks.{mark_of}
+use Rattle.places.specs.Moved.{Next, Next as next}
+use Rattle.places.specs.Marks.{mark_of, is_ended, is_below}
 use Rattle.places.specs.Outs.{Out}
 use Rattle.places.specs.Touches.{head_kind, look_head, change_head, job_kind}
-use Rattle.places.specs.Rules.{look_found, checked, bound_row, alive, absent, looked_at, unless_marked, unless_marked_below, owned, lost_to, lost_link, end_done}
+use Rattle.places.specs.Rules.{look_found, checked, bound_row, alive, absent, looked, unless_gone, owned, lost_to, lost_link, end_done}
 use Rattle.places.specs.Walks.{walked_ins}
 use Rattle.places.specs.Nexts.{number_of, link_done, raise_done, settled, settling, next_of}
 use Rattle.stepper.specs.States.{State}
@@ -78,17 +75,12 @@ module _ (s : State) where
   absent_fit (look.Edge o b) r f g = look_found_fit o b (Err r) f g
   absent_fit l r f g = tt
 
-  looked_at_fit : (l : Look) (r : ℕ) (h : Hand) (m : Mark) → FitLook s l → Held s (look_head l) r → FitOut s (looked_at l r h m)
-  looked_at_fit l r h NotEnded f g = alive_fit l r h f g
-  looked_at_fit l r h m f g = absent_fit l r f (inr g)
+  looked_fit : (l : Look) (r : ℕ) (h : Hand) (n : ℕ) → FitLook s l → Held s (look_head l) r → FitOut s (looked l r h n)
+  looked_fit l r h n f g = search (rules, alive_fit, absent_fit)
 
-  unless_fit : (m : Mark) (o : Out) → FitOut s o → FitOut s (unless_marked m o)
-  unless_fit NotEnded o f = f
-  unless_fit m o f = tt
-
-  unless_below_fit : (n : ℕ) (m : Mark) (o : Out) → FitOut s o → FitOut s (unless_marked_below n m o)
-  unless_below_fit n (Stamp x) o f = search rules
-  unless_below_fit n m o f = f
+  unless_fit : (gone : Bool) (o : Out) → FitOut s o → FitOut s (unless_gone gone o)
+  unless_fit true o f = tt
+  unless_fit false o f = f
 
   owned_fit : (g : Field) (c : Change) (r n : ℕ) → FitChange s c → FitOut s (owned g c r n)
   owned_fit Ins (change.Vertex i) r n f = tt
@@ -130,15 +122,15 @@ module _ (s : State) where
 
   settled_fit : (p : Purpose) (h : Hand) (n : ℕ) → FitPurpose s p → HandAt p h → FitsNext s (settled p h n)
   settled_fit (purpose.Look Ins l r) h n f a = f
-  settled_fit (purpose.Look Del l r) h n f a = looked_at_fit l r h (mark_of n) f.0 f.1
+  settled_fit (purpose.Look Del l r) h n f a = looked_fit l r h n f.0 f.1
   settled_fit (purpose.Own g c r) h n f a = owned_fit g c r n f.0
   settled_fit (purpose.LostDel c r) h n f a = lost_to_fit c r f.0 f.1
   settled_fit (purpose.WonIns i r) h n f a = tt
-  settled_fit (purpose.BindAgain o b) h n f a = unless_fit (mark_of n) _ f
-  settled_fit (purpose.Again Source o b g) h n f a = unless_fit (mark_of n) _ f
-  settled_fit (purpose.Again Target o b g) h n f a = unless_fit (mark_of n) _ (checked_fit o b g f.0 f.1)
-  settled_fit (purpose.Compare Source b g e x) h n f a = unless_below_fit x (mark_of n) _ f
-  settled_fit (purpose.Compare Target b g e x) h n f a = unless_below_fit x (mark_of n) _ tt
+  settled_fit (purpose.BindAgain o b) h n f a = unless_fit (is_ended (mark_of n)) _ f
+  settled_fit (purpose.Again Source o b g) h n f a = unless_fit (is_ended (mark_of n)) _ f
+  settled_fit (purpose.Again Target o b g) h n f a = unless_fit (is_ended (mark_of n)) _ (checked_fit o b g f.0 f.1)
+  settled_fit (purpose.Compare Source b g e x) h n f a = unless_fit (is_below x (mark_of n)) _ f
+  settled_fit (purpose.Compare Target b g e x) h n f a = unless_fit (is_below x (mark_of n)) _ tt
   settled_fit (purpose.Walk Ins k r) h n f a = walked_ins_fit k r h n f.0 f.1 a
   settled_fit (purpose.Walk Del k r) h n f a = f.0
 

@@ -1,5 +1,6 @@
 pub mod Marks
 pub mod Outs
+pub mod Moved
 pub mod Calls
 pub mod Touches
 pub mod Rules

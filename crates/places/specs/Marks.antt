@@ -1,5 +1,5 @@
 -- The numbers of ins and del: 0 is not ended, one number is pending, the others are stamps.
-use Rattle.std.specs.Prelude.{ℕ, cond, Some, None, Option, ◌==◌}
+use Rattle.std.specs.Prelude.{ℕ, Bool, true, false, cond, Some, None, Option, ◌==◌, nat_lt}
 use Rattle.places.specs.declared.mark.Mark.{Mark}
 use Rattle.places.specs.declared.mark.Mark.TheVariants.{NotEnded, Pending, Stamp}
 
@@ -12,3 +12,13 @@ mark_of n = cond (n == 0) NotEnded (cond (n == pending) Pending (Stamp n))
 abbrev pub stamp_of : Mark → Option ℕ
 stamp_of (Stamp n) = Some n
 stamp_of m = None
+
+-- a row whose del is pending or a stamp has ended
+abbrev pub is_ended : Mark → Bool
+is_ended NotEnded = false
+is_ended m = true
+
+-- a row has ended with a stamp below x
+abbrev pub is_below : ℕ → Mark → Bool
+is_below x (Stamp n) = nat_lt n x
+is_below x m = false

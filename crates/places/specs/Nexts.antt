@@ -18,8 +18,7 @@ use Rattle.places.specs.declared.place.Purpose.TheVariants as purpose
 use Rattle.places.specs.declared.place.Place.{Place}
 use Rattle.places.specs.declared.place.Place.TheVariants as place
 use Rattle.places.specs.declared.place.Hand.{Hand}
-use Rattle.places.specs.declared.place.Next.{Next}
-use Rattle.places.specs.declared.place.Next.TheVariants as next
+use Rattle.places.specs.Moved.{Next, Next as next}
 
 -- a link turn answers 40 where no row is left
 abbrev pub link_done : Change → Option ℕ → Bool → Next

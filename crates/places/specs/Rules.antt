@@ -1,15 +1,13 @@
 -- What follows from a place and what its turn gave, for the calls on vertices and edges.
-use Rattle.std.specs.Prelude.{ℕ, Bool, true, false, cond, ◌&&◌, Ok, Err, Result, ◌==◌, nat_lt}
+use Rattle.std.specs.Prelude.{ℕ, Bool, true, false, cond, ◌&&◌, Ok, Err, Result, ◌==◌}
 use Rattle.std.specs.Option.{unwrap_or}
 use Rattle.std.specs.declared.ops.ControlFlow.TheVariants.{Continue, Break}
 use Rattle.codes.specs.declared.answer.Answer.{Answer}
 use Rattle.codes.specs.declared.answer.Answer.TheVariants.{VertexAdded, VertexAlready, VertexRemoved, VertexAbsent, VertexPresent, EdgeAdded, EdgeAlready, EdgeRemoved, EdgeAbsent, EdgePresent}
 use Rattle.layout.specs.declared.names.Field.{Field}
 use Rattle.layout.specs.declared.names.Field.TheVariants.{Ins, Del}
-use Rattle.places.specs.Marks.{mark_of, stamp_of}
+use Rattle.places.specs.Marks.{mark_of, stamp_of, is_ended, is_below}
 use Rattle.places.specs.Outs.{Out}
-use Rattle.places.specs.declared.mark.Mark.{Mark}
-use Rattle.places.specs.declared.mark.Mark.TheVariants.{NotEnded, Stamp}
 use Rattle.places.specs.declared.place.Op.{Op}
 use Rattle.places.specs.declared.place.Op.TheVariants.{Add, Remove, Contains}
 use Rattle.places.specs.declared.place.Bound.{Bound}
@@ -62,28 +60,20 @@ absent (look.Vertex Add i) h = Continue (place.Link (change.Vertex i) h)
 absent (look.Edge o b) h = look_found o b (Err h)
 absent l h = Break VertexAbsent
 
-abbrev pub looked_at : Look → ℕ → Hand → Mark → Out
-looked_at l r h NotEnded = alive l r h
-looked_at l r h m = absent l r
-
 abbrev pub looked : Look → ℕ → Hand → ℕ → Out
-looked l r h n = looked_at l r h (mark_of n)
+looked l r h n = cond (is_ended (mark_of n)) (absent l r) (alive l r h)
 
--- check again: a vertex that has ended answers 13
-abbrev pub unless_marked : Mark → Out → Out
-unless_marked NotEnded o = o
-unless_marked m o = Break VertexAbsent
+-- a vertex that has ended, or ended below x, answers 13
+abbrev pub unless_gone : Bool → Out → Out
+unless_gone gone o = cond gone (Break VertexAbsent) o
 
+-- check again
 abbrev pub unless_ended : ℕ → Out → Out
-unless_ended n o = unless_marked (mark_of n) o
+unless_ended n o = unless_gone (is_ended (mark_of n)) o
 
--- compare x: a vertex that has ended with a stamp below x answers 13
-abbrev pub unless_marked_below : ℕ → Mark → Out → Out
-unless_marked_below x (Stamp n) o = cond (nat_lt n x) (Break VertexAbsent) o
-unless_marked_below x m o = o
-
+-- compare x
 abbrev pub unless_below : ℕ → ℕ → Out → Out
-unless_below x n o = unless_marked_below x (mark_of n) o
+unless_below x n o = unless_gone (is_below x (mark_of n)) o
 
 -- the answer of a change of an edge: 20 for an ins, 22 for a del
 abbrev pub edge_changed : Field → Answer

@@ -1,43 +1,13 @@
-// What follows once a look, a bind or a check again has decided.
+// What follows once a look, a bind or a check again has decided. Each moves the place, or answers.
 ghost use Rattle.std.specs.Prelude.{◌≡◌};
-ghost use Rattle.places.specs.Rules.{look_found, bound_row, checked, alive, absent, looked, unless_ended, unless_below, owned, lost_to, first};
+ghost use Rattle.std.specs.declared.ops.ControlFlow.TheVariants.{Continue};
+ghost use Rattle.places.specs.Outs.{out_of};
+ghost use Rattle.places.specs.Rules.{look_found, bound_row, checked, alive, absent, looked, owned, lost_to, first};
 
 use crate::mark::Mark;
-use crate::place::{Bound, Change, Found, Hand, Look, Op, Out, Place, Purpose, Side, Stage};
+use crate::place::{Bound, Change, Found, Hand, Look, Op, Place, Purpose, Side, Stage};
 use codes::Answer;
 use layout::names::Field;
-
-// On to settling a field.
-pub fn settle(purpose: Purpose) -> Out
-    ensures { result ≡ first purpose }
-{
-    Out::Continue(Place::Settle(Stage::First, purpose))
-}
-
-impl Op {
-    // After the look at an edge: only a remove that found it does not check again.
-    fn look_found(self, bound: Bound, found: Found) -> Out
-        ensures { result ≡ look_found self bound found }
-    {
-        match (self, found) {
-            (Op::Remove, Ok(row)) => Out::Continue(Place::End(Change::Edge(bound), row)),
-            _ => settle(Purpose::Again(Side::Source, self, bound, found)),
-        }
-    }
-
-    // After checking again.
-    pub fn checked(self, bound: Bound, found: Found) -> Out
-        ensures { result ≡ checked self bound found }
-    {
-        match (self, found) {
-            (Op::Add, Err(head)) => Out::Continue(Place::Link(Change::Edge(bound), head)),
-            (Op::Add, Ok(_)) => Out::Break(Answer::EdgeAlready),
-            (Op::Contains, Ok(_)) => Out::Break(Answer::EdgePresent),
-            (Op::Remove, Ok(row)) => Out::Continue(Place::End(Change::Edge(bound), row)),
-            (_, Err(_)) => Out::Break(Answer::EdgeAbsent),
-        }
-    }
-}
 
 impl Bound {
     // An edge row is the edge if its two rows are the bound ones.
@@ -52,17 +22,55 @@ impl Bound {
     }
 }
 
-impl Look {
-    // The row is not ended.
-    fn alive(self, row: u32, hand: Hand) -> Out
-        ensures { result ≡ alive self row hand }
+impl Place {
+    // On to another place.
+    pub(crate) fn go(&mut self, place: Place) -> Option<Answer>
+        ensures { out_of self.new result ≡ Continue place }
     {
-        match self {
-            Look::Vertex(Op::Add, _) => Out::Break(Answer::VertexAlready),
-            Look::Vertex(Op::Remove, i) => Out::Continue(Place::End(Change::Vertex(i), row)),
-            Look::Vertex(Op::Contains, _) => Out::Break(Answer::VertexPresent),
-            Look::Source(op, pair) => Out::Continue(Place::Head(Look::Target(op, pair, row))),
-            Look::Target(op, pair, source) => settle(Purpose::BindAgain(
+        *self = place;
+        None
+    }
+
+    // On to settling a field.
+    pub(crate) fn settle(&mut self, purpose: Purpose) -> Option<Answer>
+        ensures { out_of self.new result ≡ first purpose }
+    {
+        self.go(Place::Settle(Stage::First, purpose))
+    }
+
+    // After the look at an edge: only a remove that found it does not check again.
+    fn look_found(&mut self, op: Op, bound: Bound, found: Found) -> Option<Answer>
+        ensures { out_of self.new result ≡ look_found op bound found }
+    {
+        match (op, found) {
+            (Op::Remove, Ok(row)) => self.go(Place::End(Change::Edge(bound), row)),
+            _ => self.settle(Purpose::Again(Side::Source, op, bound, found)),
+        }
+    }
+
+    // After checking again.
+    pub(crate) fn checked(&mut self, op: Op, bound: Bound, found: Found) -> Option<Answer>
+        ensures { out_of self.new result ≡ checked op bound found }
+    {
+        match (op, found) {
+            (Op::Add, Err(head)) => self.go(Place::Link(Change::Edge(bound), head)),
+            (Op::Add, Ok(_)) => Some(Answer::EdgeAlready),
+            (Op::Contains, Ok(_)) => Some(Answer::EdgePresent),
+            (Op::Remove, Ok(row)) => self.go(Place::End(Change::Edge(bound), row)),
+            (_, Err(_)) => Some(Answer::EdgeAbsent),
+        }
+    }
+
+    // The look met a row that has not ended.
+    fn alive(&mut self, look: Look, row: u32, hand: Hand) -> Option<Answer>
+        ensures { out_of self.new result ≡ alive look row hand }
+    {
+        match look {
+            Look::Vertex(Op::Add, _) => Some(Answer::VertexAlready),
+            Look::Vertex(Op::Remove, i) => self.go(Place::End(Change::Vertex(i), row)),
+            Look::Vertex(Op::Contains, _) => Some(Answer::VertexPresent),
+            Look::Source(op, pair) => self.go(Place::Head(Look::Target(op, pair, row))),
+            Look::Target(op, pair, source) => self.settle(Purpose::BindAgain(
                 op,
                 Bound {
                     pair,
@@ -70,63 +78,46 @@ impl Look {
                     target: row,
                 },
             )),
-            Look::Edge(op, bound) => op.look_found(bound, bound.found(row, hand)),
+            Look::Edge(op, bound) => self.look_found(op, bound, bound.found(row, hand)),
         }
     }
 
     // There is no row, or it has ended.
-    pub fn absent(self, head: u32) -> Out
-        ensures { result ≡ absent self head }
+    pub(crate) fn absent(&mut self, look: Look, head: u32) -> Option<Answer>
+        ensures { out_of self.new result ≡ absent look head }
     {
-        match self {
-            Look::Vertex(Op::Add, i) => Out::Continue(Place::Link(Change::Vertex(i), head)),
-            Look::Edge(op, bound) => op.look_found(bound, Err(head)),
-            _ => Out::Break(Answer::VertexAbsent),
+        match look {
+            Look::Vertex(Op::Add, i) => self.go(Place::Link(Change::Vertex(i), head)),
+            Look::Edge(op, bound) => self.look_found(op, bound, Err(head)),
+            _ => Some(Answer::VertexAbsent),
         }
     }
 
     // The row's del is settled.
-    pub fn looked(self, row: u32, hand: Hand, del: u32) -> Out
-        ensures { result ≡ looked self row hand del }
+    pub(crate) fn looked(&mut self, look: Look, row: u32, hand: Hand, del: u32) -> Option<Answer>
+        ensures { out_of self.new result ≡ looked look row hand del }
     {
-        if Mark::from(del) == Mark::NotEnded {
-            self.alive(row, hand)
+        if Mark::from(del).is_ended() {
+            self.absent(look, row)
         } else {
-            self.absent(row)
+            self.alive(look, row, hand)
         }
     }
-}
 
-// A vertex that has ended answers 13.
-pub fn unless_ended(del: u32, on: Out) -> Out
-    ensures { result ≡ unless_ended del on }
-{
-    if Mark::from(del) == Mark::NotEnded {
-        on
-    } else {
-        Out::Break(Answer::VertexAbsent)
-    }
-}
-
-// A vertex that has ended with a stamp below x answers 13.
-pub fn unless_below(x: u32, del: u32, on: Out) -> Out
-    ensures { result ≡ unless_below x del on }
-{
-    match Mark::from(del) {
-        Mark::Stamp(n) if n < x => Out::Break(Answer::VertexAbsent),
-        _ => on,
-    }
-}
-
-impl Change {
     // The worker's own change bears its stamp.
-    pub fn owned(self, field: Field, row: u32, number: u32) -> Out
-        ensures { result ≡ owned field self row number }
+    pub(crate) fn owned(
+        &mut self,
+        change: Change,
+        field: Field,
+        row: u32,
+        number: u32,
+    ) -> Option<Answer>
+        ensures { out_of self.new result ≡ owned field change row number }
     {
-        match (self, field) {
-            (Change::Vertex(_), Field::Ins) => Out::Break(Answer::VertexAdded),
-            (Change::Vertex(_), Field::Del) => Out::Break(Answer::VertexRemoved),
-            (Change::Edge(bound), _) => settle(Purpose::Compare(
+        match (change, field) {
+            (Change::Vertex(_), Field::Ins) => Some(Answer::VertexAdded),
+            (Change::Vertex(_), Field::Del) => Some(Answer::VertexRemoved),
+            (Change::Edge(bound), _) => self.settle(Purpose::Compare(
                 Side::Source,
                 bound,
                 field,
@@ -138,12 +129,12 @@ impl Change {
     }
 
     // Another worker's end of the row bears its stamp.
-    pub fn lost_to(self, row: u32) -> Out
-        ensures { result ≡ lost_to self row }
+    pub(crate) fn lost_to(&mut self, change: Change, row: u32) -> Option<Answer>
+        ensures { out_of self.new result ≡ lost_to change row }
     {
-        match self {
-            Change::Vertex(_) => Out::Break(Answer::VertexAbsent),
-            Change::Edge(bound) => settle(Purpose::Again(
+        match change {
+            Change::Vertex(_) => Some(Answer::VertexAbsent),
+            Change::Edge(bound) => self.settle(Purpose::Again(
                 Side::Source,
                 Op::Remove,
                 bound,

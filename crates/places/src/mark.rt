@@ -1,6 +1,6 @@
 // The numbers of ins and del.
 ghost use Rattle.std.specs.Prelude.{◌≡◌};
-ghost use Rattle.places.specs.Marks.{mark_of, stamp_of};
+ghost use Rattle.places.specs.Marks.{mark_of, stamp_of, is_ended, is_below};
 
 pub const PENDING: u32 = 4_294_967_295;
 
@@ -32,5 +32,19 @@ impl Mark {
             Mark::NotEnded | Mark::Pending => None,
             Mark::Stamp(n) => Some(n),
         }
+    }
+
+    // Of a del: the row has ended.
+    pub fn is_ended(self) -> bool
+        ensures { result ≡ is_ended self }
+    {
+        self != Mark::NotEnded
+    }
+
+    // Of a del: the row has ended with a stamp below x.
+    pub fn is_below(self, x: u32) -> bool
+        ensures { result ≡ is_below x self }
+    {
+        matches!(self, Mark::Stamp(n) if n < x)
     }
 }

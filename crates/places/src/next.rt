@@ -1,20 +1,14 @@
-// What follows from a place and what its turn gave.
+// What follows from a place and what its turn gave: the place moves, or the call answers.
 ghost use Rattle.std.specs.Prelude.{◌≡◌};
+ghost use Rattle.places.specs.Outs.{out_of};
+ghost use Rattle.places.specs.Moved.{next_from};
 ghost use Rattle.places.specs.Nexts.{settle_on, settled, link_done, next_of};
 ghost use Rattle.places.specs.Rules.{edge_changed, end_done, lost_link};
 
-use crate::lookup::{settle, unless_below, unless_ended};
-use crate::mark::PENDING;
-use crate::place::{Change, Got, Hand, Look, Next, Op, Out, Place, Purpose, Side, Stage};
+use crate::mark::{Mark, PENDING};
+use crate::place::{Change, Got, Hand, Look, Op, Place, Purpose, Rest, Side, Stage};
 use codes::Answer;
 use layout::names::Field;
-
-// On to another turn of settling.
-fn settle_on(stage: Stage, purpose: Purpose) -> Next
-    ensures { result ≡ settle_on stage purpose }
-{
-    Next::Out(Out::Continue(Place::Settle(stage, purpose)))
-}
 
 // The answer of a change of an edge.
 fn edge_changed(field: Field) -> Answer
@@ -26,99 +20,104 @@ fn edge_changed(field: Field) -> Answer
     }
 }
 
-impl Change {
-    fn lost_link(self) -> Out
-        ensures { result ≡ lost_link self }
+impl Place {
+    // On to another turn of settling.
+    fn settle_on(&mut self, stage: Stage, purpose: Purpose) -> Rest
+        ensures { next_from self.new result ≡ settle_on stage purpose }
     {
-        match self {
-            Change::Vertex(i) => Out::Continue(Place::LostHead(i)),
-            Change::Edge(bound) => Out::Continue(Place::Head(Look::Source(Op::Add, bound.pair))),
+        Rest::Out(self.go(Place::Settle(stage, purpose)))
+    }
+
+    fn lost_link(&mut self, change: Change) -> Option<Answer>
+        ensures { out_of self.new result ≡ lost_link change }
+    {
+        match change {
+            Change::Vertex(i) => self.go(Place::LostHead(i)),
+            Change::Edge(bound) => self.go(Place::Head(Look::Source(Op::Add, bound.pair))),
         }
     }
 
     // After a link turn.
-    fn link_done(self, spare: Option<u32>, done: bool) -> Next
-        ensures { result ≡ link_done self spare done }
+    fn link_done(&mut self, change: Change, spare: Option<u32>, done: bool) -> Rest
+        ensures { next_from self.new result ≡ link_done change spare done }
     {
         match spare {
-            None => Next::Out(Out::Break(Answer::RowsSpent)),
-            Some(row) if done => Next::Linked(self, row),
-            Some(_) => Next::Out(self.lost_link()),
+            None => Rest::Out(Some(Answer::RowsSpent)),
+            Some(row) if done => Rest::Linked(change, row),
+            Some(_) => Rest::Out(self.lost_link(change)),
         }
     }
 
     // After the swap of a del.
-    fn end_done(self, row: u32, done: bool) -> Out
-        ensures { result ≡ end_done done self row }
+    fn end_done(&mut self, change: Change, row: u32, done: bool) -> Option<Answer>
+        ensures { out_of self.new result ≡ end_done done change row }
     {
         if done {
-            settle(Purpose::Own(Field::Del, self, row))
+            self.settle(Purpose::Own(Field::Del, change, row))
         } else {
-            settle(Purpose::LostDel(self, row))
+            self.settle(Purpose::LostDel(change, row))
         }
     }
-}
 
-impl Purpose {
-    // The field is settled at a number.
-    fn settled(self, hand: Hand, number: u32) -> Next
-        ensures { result ≡ settled self hand number }
+    // The field is settled at a number. A vertex that is looked at once more and has ended answers 13.
+    fn settled(&mut self, purpose: Purpose, hand: Hand, number: u32) -> Rest
+        ensures { next_from self.new result ≡ settled purpose hand number }
     {
-        match self {
-            Purpose::Walk(Field::Ins, walk, row) => walk.ins_read(row, hand, number),
-            Purpose::Walk(Field::Del, walk, row) => walk.del_read(row, hand, number),
+        let mark = Mark::from(number);
+        Rest::Out(match purpose {
+            Purpose::Walk(Field::Ins, walk, row) => return self.ins_read(walk, row, hand, number),
+            Purpose::Walk(Field::Del, walk, row) => return self.del_read(walk, row, hand, number),
             Purpose::Look(Field::Ins, look, row) => {
-                Next::Out(settle(Purpose::Look(Field::Del, look, row)))
+                self.settle(Purpose::Look(Field::Del, look, row))
             }
-            Purpose::Look(Field::Del, look, row) => Next::Out(look.looked(row, hand, number)),
-            Purpose::Own(field, change, row) => Next::Out(change.owned(field, row, number)),
-            Purpose::LostDel(change, row) => Next::Out(change.lost_to(row)),
-            Purpose::WonIns(_, _) => Next::Out(Out::Break(Answer::VertexAlready)),
-            Purpose::BindAgain(op, bound) => Next::Out(unless_ended(
-                number,
-                Out::Continue(Place::Head(Look::Edge(op, bound))),
-            )),
-            Purpose::Again(Side::Source, op, bound, found) => Next::Out(unless_ended(
-                number,
-                settle(Purpose::Again(Side::Target, op, bound, found)),
-            )),
-            Purpose::Again(Side::Target, op, bound, found) => {
-                Next::Out(unless_ended(number, op.checked(bound, found)))
+            Purpose::Look(Field::Del, look, row) => self.looked(look, row, hand, number),
+            Purpose::Own(field, change, row) => self.owned(change, field, row, number),
+            Purpose::LostDel(change, row) => self.lost_to(change, row),
+            Purpose::WonIns(_, _) => Some(Answer::VertexAlready),
+            Purpose::BindAgain(_, _) | Purpose::Again(_, _, _, _) if mark.is_ended() => {
+                Some(Answer::VertexAbsent)
             }
-            Purpose::Compare(Side::Source, bound, field, row, x) => Next::Out(unless_below(
-                x,
-                number,
-                settle(Purpose::Compare(Side::Target, bound, field, row, x)),
-            )),
-            Purpose::Compare(Side::Target, _, field, _, x) => {
-                Next::Out(unless_below(x, number, Out::Break(edge_changed(field))))
+            Purpose::Compare(_, _, _, _, x) if mark.is_below(x) => Some(Answer::VertexAbsent),
+            Purpose::BindAgain(op, bound) => self.go(Place::Head(Look::Edge(op, bound))),
+            Purpose::Again(Side::Source, op, bound, found) => {
+                self.settle(Purpose::Again(Side::Target, op, bound, found))
             }
-        }
+            Purpose::Again(Side::Target, op, bound, found) => self.checked(op, bound, found),
+            Purpose::Compare(Side::Source, bound, field, row, x) => {
+                self.settle(Purpose::Compare(Side::Target, bound, field, row, x))
+            }
+            Purpose::Compare(Side::Target, _, field, _, _) => Some(edge_changed(field)),
+        })
     }
-}
 
-impl Place {
-    pub fn next(&self, hand: Hand, got: Got) -> Next
-        ensures { result ≡ next_of self.now hand got }
+    // Moves on by what the turn gave, and says what is left to do. A worker that answers has no place: the caller makes it idle.
+    pub fn next(&mut self, hand: Hand, got: Got) -> Rest
+        ensures { next_from self.new result ≡ next_of self.old hand got }
     {
         // A read always gives a number; where nothing was done it counts as 0, as in `next_of`.
         match (*self, got.unwrap_or(0)) {
-            (Place::Idle, _) => Next::Out(Out::Continue(Place::Idle)),
-            (Place::Head(look), 0) => Next::Out(look.absent(0)),
-            (Place::Head(look), row) => Next::Out(settle(Purpose::Look(Field::Ins, look, row))),
-            (Place::Settle(Stage::First, purpose), PENDING) => settle_on(Stage::Clock, purpose),
-            (Place::Settle(Stage::Clock, purpose), stamp) => settle_on(Stage::Swap(stamp), purpose),
-            (Place::Settle(Stage::Swap(_), purpose), _) => settle_on(Stage::Again, purpose),
-            (Place::Settle(_, purpose), number) => purpose.settled(hand, number),
-            (Place::Link(change, _), _) => change.link_done(hand.spare, got.is_some()),
-            (Place::End(change, row), _) => Next::Out(change.end_done(row, got.is_some())),
-            (Place::LostHead(key), row) => Next::Out(settle(Purpose::WonIns(key, row))),
+            (Place::Idle, _) => Rest::Out(None),
+            (Place::Head(look), 0) => Rest::Out(self.absent(look, 0)),
+            (Place::Head(look), row) => {
+                Rest::Out(self.settle(Purpose::Look(Field::Ins, look, row)))
+            }
+            (Place::Settle(Stage::First, purpose), PENDING) => {
+                self.settle_on(Stage::Clock, purpose)
+            }
+            (Place::Settle(Stage::Clock, purpose), stamp) => {
+                self.settle_on(Stage::Swap(stamp), purpose)
+            }
+            (Place::Settle(Stage::Swap(_), purpose), _) => self.settle_on(Stage::Again, purpose),
+            (Place::Settle(_, purpose), number) => self.settled(purpose, hand, number),
+            (Place::Link(change, _), _) => self.link_done(change, hand.spare, got.is_some()),
+            (Place::End(change, row), _) => Rest::Out(self.end_done(change, row, got.is_some())),
+            (Place::LostHead(key), row) => Rest::Out(self.settle(Purpose::WonIns(key, row))),
             (Place::Raise(survey), _) => match got {
-                Some(t) => Next::Raised(survey, t),
-                None => Next::Out(Out::Break(Answer::ClockSpent)),
+                Some(t) => Rest::Raised(survey, t),
+                None => Rest::Out(Some(Answer::ClockSpent)),
             },
-            (Place::WalkHead(walk), row) => walk.head_read(row),
-            (Place::WalkOlder(walk, row), number) => walk.ins_read(row, hand, number),
+            (Place::WalkHead(walk), row) => self.head_read(walk, row),
+            (Place::WalkOlder(walk, row), number) => self.ins_read(walk, row, hand, number),
         }
     }
 }

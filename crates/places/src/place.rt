@@ -4,7 +4,6 @@ ghost use Rattle.places.specs.Touches.{side_row};
 
 use codes::Answer;
 use layout::names::{Cell, Field};
-use std::ops::ControlFlow;
 
 #[derive(Clone, Copy, PartialEq, Eq, Debug)]
 pub enum Op {
@@ -165,13 +164,11 @@ pub struct Hand {
     pub weight: u32,
 }
 
-// On to a place, or the answer of the call.
-pub type Out = ControlFlow<Answer, Place>;
-
-// What follows from a place and what its turn gave: a place or an answer; a row linked; the clock raised; the end of a walk, with the visible row.
+// What is left to do of a turn when the place has moved: its answer, if it answered; a row linked; the clock raised; the end of a
+// walk, with the visible row.
 #[derive(Clone, Copy, PartialEq, Eq, Debug)]
-pub enum Next {
-    Out(Out),
+pub enum Rest {
+    Out(Option<Answer>),
     Linked(Change, u32),
     Raised(Survey, u32),
     // Row number 0 is none, as in the cells.

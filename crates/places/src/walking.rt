@@ -1,10 +1,10 @@
 // Walking a head: down its rows to the first with ins at most t.
 ghost use Rattle.std.specs.Prelude.{◌≡◌};
+ghost use Rattle.places.specs.Moved.{next_from};
 ghost use Rattle.places.specs.Walks.{walked_head, walked_ins, walked_del, first_job};
 
-use crate::lookup::settle;
 use crate::mark::Mark;
-use crate::place::{Hand, Job, Next, Out, Place, Purpose, Survey, Walk};
+use crate::place::{Hand, Job, Place, Purpose, Rest, Survey, Walk};
 use layout::names::Field;
 
 impl Survey {
@@ -19,39 +19,37 @@ impl Survey {
     }
 }
 
-impl Walk {
-    pub fn head_read(self, row: u32) -> Next
-        ensures { result ≡ walked_head self row }
+impl Place {
+    pub(crate) fn head_read(&mut self, walk: Walk, row: u32) -> Rest
+        ensures { next_from self.new result ≡ walked_head walk row }
     {
         match row {
-            0 => Next::Walked(self, 0),
-            _ => Next::Out(settle(Purpose::Walk(Field::Ins, self, row))),
+            0 => Rest::Walked(walk, 0),
+            _ => Rest::Out(self.settle(Purpose::Walk(Field::Ins, walk, row))),
         }
     }
 
     // The row's ins is settled: a row above t leads to the older one.
-    pub fn ins_read(self, row: u32, hand: Hand, ins: u32) -> Next
-        ensures { result ≡ walked_ins self row hand ins }
+    pub(crate) fn ins_read(&mut self, walk: Walk, row: u32, hand: Hand, ins: u32) -> Rest
+        ensures { next_from self.new result ≡ walked_ins walk row hand ins }
     {
         match Mark::from(ins) {
-            Mark::Stamp(n) if n <= hand.t => Next::Out(settle(Purpose::Walk(
-                Field::Del,
-                self,
-                row,
-            ))),
-            Mark::NotEnded => Next::Out(settle(Purpose::Walk(Field::Del, self, row))),
-            _ if hand.older == 0 => Next::Walked(self, 0),
-            _ => Next::Out(Out::Continue(Place::WalkOlder(self, hand.older))),
+            Mark::Stamp(n) if n <= hand.t => {
+                Rest::Out(self.settle(Purpose::Walk(Field::Del, walk, row)))
+            }
+            Mark::NotEnded => Rest::Out(self.settle(Purpose::Walk(Field::Del, walk, row))),
+            _ if hand.older == 0 => Rest::Walked(walk, 0),
+            _ => Rest::Out(self.go(Place::WalkOlder(walk, hand.older))),
         }
     }
 
     // The row's del is settled: the row is visible if it has not ended at t.
-    pub fn del_read(self, row: u32, hand: Hand, del: u32) -> Next
-        ensures { result ≡ walked_del self row hand del }
+    pub(crate) fn del_read(&self, walk: Walk, row: u32, hand: Hand, del: u32) -> Rest
+        ensures { next_from self.now result ≡ walked_del walk row hand del }
     {
         match Mark::from(del) {
-            Mark::Stamp(n) if n <= hand.t => Next::Walked(self, 0),
-            _ => Next::Walked(self, row),
+            Mark::Stamp(n) if n <= hand.t => Rest::Walked(walk, 0),
+            _ => Rest::Walked(walk, row),
         }
     }
 }

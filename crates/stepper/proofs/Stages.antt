@@ -8,8 +8,7 @@ use Rattle.places.specs.declared.place.Stage.TheVariants as stage
 use Rattle.places.specs.declared.place.Place.{Place}
 use Rattle.places.specs.declared.place.Place.TheVariants as place
 use Rattle.places.specs.declared.place.Hand.{Hand}
-use Rattle.places.specs.declared.place.Next.{Next}
-use Rattle.places.specs.declared.place.Next.TheVariants as next
+use Rattle.places.specs.Moved.{Next, Next as next}
 use Rattle.places.specs.Marks.{pending}
 use Rattle.places.specs.Outs.{Out}
 use Rattle.places.specs.Rules.{absent}

@@ -3,8 +3,6 @@ use Rattle.std.proofs.Common.{rules, ℕ, Bool, true, false, Some, None, Ok, Err
 use Rattle.std.specs.declared.ops.ControlFlow.TheVariants.{Continue, Break}
 use Rattle.layout.specs.declared.names.Field.{Field}
 use Rattle.layout.specs.declared.names.Field.TheVariants.{Ins, Del}
-use Rattle.places.specs.declared.mark.Mark.{Mark}
-use Rattle.places.specs.declared.mark.Mark.TheVariants.{NotEnded, Stamp}
 use Rattle.places.specs.declared.place.Op.{Op}
 use Rattle.places.specs.declared.place.Op.TheVariants.{Add, Remove, Contains}
 use Rattle.places.specs.declared.place.Bound.{Bound}
@@ -24,11 +22,10 @@ use Rattle.places.specs.declared.place.Purpose.{Purpose}
 use Rattle.places.specs.declared.place.Purpose.TheVariants as purpose
 use Rattle.places.specs.declared.place.Place.{Place}
 use Rattle.places.specs.declared.place.Place.TheVariants as place
-use Rattle.places.specs.declared.place.Next.{Next}
-use Rattle.places.specs.declared.place.Next.TheVariants as next
-use Rattle.places.specs.Marks.{mark_of}
+use Rattle.places.specs.Moved.{Next, Next as next}
+use Rattle.places.specs.Marks.{mark_of, is_ended, is_below}
 use Rattle.places.specs.Outs.{Out}
-use Rattle.places.specs.Rules.{look_found, checked, bound_row, alive, absent, looked_at, unless_marked, unless_marked_below, owned, lost_to, lost_link, end_done}
+use Rattle.places.specs.Rules.{look_found, checked, bound_row, alive, absent, looked, unless_gone, owned, lost_to, lost_link, end_done}
 use Rattle.places.specs.Walks.{walked_head, walked_ins}
 use Rattle.places.specs.Nexts.{link_done, raise_done, settled}
 use Rattle.books.specs.declared.book.Book.{Book}
@@ -70,17 +67,12 @@ absent_starts (look.Vertex Add i) r = tt
 absent_starts (look.Edge o b) r = look_found_starts o b (Err r)
 absent_starts l r = tt
 
-looked_at_starts : (l : Look) (r : ℕ) (h : Hand) (m : Mark) → StartsOut (looked_at l r h m)
-looked_at_starts l r h NotEnded = alive_starts l r h
-looked_at_starts l r h m = absent_starts l r
+looked_starts : (l : Look) (r : ℕ) (h : Hand) (n : ℕ) → StartsOut (looked l r h n)
+looked_starts l r h n = search (rules, alive_starts, absent_starts)
 
-unless_starts : (m : Mark) (o : Out) → StartsOut o → StartsOut (unless_marked m o)
-unless_starts NotEnded o s = s
-unless_starts m o s = tt
-
-unless_below_starts : (x : ℕ) (m : Mark) (o : Out) → StartsOut o → StartsOut (unless_marked_below x m o)
-unless_below_starts x (Stamp n) o s = search rules
-unless_below_starts x m o s = s
+unless_starts : (gone : Bool) (o : Out) → StartsOut o → StartsOut (unless_gone gone o)
+unless_starts true o s = tt
+unless_starts false o s = s
 
 owned_starts : (f : Field) (c : Change) (r n : ℕ) → StartsOut (owned f c r n)
 owned_starts Ins (change.Vertex i) r n = tt
@@ -115,14 +107,14 @@ pub walked_ins_starts : (k : Walk) (r : ℕ) (h : Hand) (n : ℕ) → StartsNext
 walked_ins_starts k r h n = search rules
 
 pub settled_starts : (p : Purpose) (h : Hand) (n : ℕ) → StartsNext (settled p h n)
-settled_starts (purpose.Look Del l r) h n = looked_at_starts l r h (mark_of n)
+settled_starts (purpose.Look Del l r) h n = looked_starts l r h n
 settled_starts (purpose.Own f c r) h n = owned_starts f c r n
 settled_starts (purpose.LostDel c r) h n = lost_to_starts c r
-settled_starts (purpose.BindAgain o b) h n = unless_starts (mark_of n) _ tt
-settled_starts (purpose.Again Source o b f) h n = unless_starts (mark_of n) _ tt
-settled_starts (purpose.Again Target o b f) h n = unless_starts (mark_of n) _ (checked_starts o b f)
-settled_starts (purpose.Compare Source b f e x) h n = unless_below_starts x (mark_of n) _ tt
-settled_starts (purpose.Compare Target b f e x) h n = unless_below_starts x (mark_of n) _ tt
+settled_starts (purpose.BindAgain o b) h n = unless_starts (is_ended (mark_of n)) _ tt
+settled_starts (purpose.Again Source o b f) h n = unless_starts (is_ended (mark_of n)) _ tt
+settled_starts (purpose.Again Target o b f) h n = unless_starts (is_ended (mark_of n)) _ (checked_starts o b f)
+settled_starts (purpose.Compare Source b f e x) h n = unless_starts (is_below x (mark_of n)) _ tt
+settled_starts (purpose.Compare Target b f e x) h n = unless_starts (is_below x (mark_of n)) _ tt
 settled_starts (purpose.Walk Ins k r) h n = walked_ins_starts k r h n
 settled_starts p h n = tt
 

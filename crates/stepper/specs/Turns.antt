@@ -10,7 +10,7 @@ use Rattle.layout.specs.Rows.{row_at}
 use Rattle.places.specs.declared.place.Hand.{Hand}
 use Rattle.places.specs.declared.place.Place.{Place}
 use Rattle.places.specs.declared.place.Touch.{Touch}
-use Rattle.places.specs.declared.place.Next.{Next}
+use Rattle.places.specs.Moved.{Next}
 use Rattle.places.specs.Touches.{touch_of}
 use Rattle.places.specs.Private.{link_kind, older_row, edge_row}
 use Rattle.places.specs.Nexts.{next_of}

@@ -11,11 +11,11 @@ use Rattle.places.specs.declared.place.Place.{Place}
 use Rattle.places.specs.declared.place.Place.TheVariants.{Idle, Settle, WalkHead}
 use Rattle.places.specs.declared.place.Purpose.TheVariants.{Own}
 use Rattle.places.specs.declared.place.Stage.TheVariants.{First}
-use Rattle.places.specs.declared.place.Next.{Next}
-use Rattle.places.specs.declared.place.Next.TheVariants as next
+use Rattle.places.specs.Moved.{Next, Next as next}
 use Rattle.places.specs.Outs.{Out}
 use Rattle.places.specs.Touches.{change_kind}
 use Rattle.places.specs.Walks.{first_job}
+use Rattle.places.specs.Nexts.{next_of}
 use Rattle.books.specs.declared.book.Book.{Book}
 use Rattle.books.specs.declared.walked.Entry.{Entry}
 use Rattle.books.specs.declared.walked.Entry.TheVariants as entry
@@ -85,9 +85,16 @@ after_step v s = record { worker = v; answer = s.answer; entry = s.entry }
 abbrev pub served : Worker → Outcome → Turned
 served v o = record { worker = arrived (with_book v o.book) o.out; answer = out_answer o.out; entry = o.entry }
 
+abbrev pub arriving : Worker → Out → Turned
+arriving v o = record { worker = arrived v o; answer = out_answer o; entry = entry.Nothing }
+
 -- A linked row counts, and its ins is settled. A raise clears the page and starts the first walk. A walk that has ended goes into the book.
 abbrev pub followed : ℕ → Worker → Hand → Next → Turned
-followed n v h (next.Out o) = record { worker = arrived v o; answer = out_answer o; entry = entry.Nothing }
+followed n v h (next.Out o) = arriving v o
 followed n v h (next.Linked c r) = record { worker = at (counted v (change_kind c)) (Settle First (Own Ins c r)); answer = None; entry = entry.Nothing }
 followed n v h (next.Raised s t) = record { worker = at (with_book v (blank t)) (WalkHead (record { survey = s; job = first_job s })); answer = None; entry = entry.Clear }
 followed n v h (next.Walked k r) = served v (walked_of v.book k n r h)
+
+-- what follows from a worker's place and what its turn gave
+abbrev pub follows : ℕ → Worker → Hand → Option ℕ → Turned
+follows n v h g = followed n v h (next_of v.place h g)

@@ -1,12 +1,12 @@
 // The records of all workers; an opening uses as many as its sizes say.
 ghost use Rattle.std.specs.Prelude.{◌≡◌, slice_index_or, slice_set};
 ghost use Rattle.stepper.specs.Requests.{begun};
-ghost use Rattle.stepper.specs.Workers.{nobody, fresh_table, after_step, followed};
+ghost use Rattle.stepper.specs.Workers.{nobody, fresh_table, after_step, follows};
 
 use crate::seat::Seat;
 use crate::worker::{Step, Worker};
 use layout::sizes::Sizes;
-use places::place::{Call, Hand, Next};
+use places::place::{Call, Got, Hand};
 
 // Eight records in fixed memory, with no heap.
 #[derive(Clone, Copy, PartialEq, Eq, Debug)]
@@ -37,11 +37,11 @@ impl Table {
         worker.begin(call);
     }
 
-    pub(crate) fn follow(&mut self, seat: Seat, sizes: Sizes, hand: Hand, next: Next) -> Step
-        ensures workers { self.new.workers ≡ slice_set self.old.workers seat.index (followed sizes.keys (slice_index_or self.old.workers seat.index nobody) hand next).worker }
-        ensures step { after_step (followed sizes.keys (slice_index_or self.old.workers seat.index nobody) hand next).worker result ≡ followed sizes.keys (slice_index_or self.old.workers seat.index nobody) hand next }
+    pub(crate) fn follow(&mut self, seat: Seat, sizes: Sizes, hand: Hand, got: Got) -> Step
+        ensures workers { self.new.workers ≡ slice_set self.old.workers seat.index (follows sizes.keys (slice_index_or self.old.workers seat.index nobody) hand got).worker }
+        ensures step { after_step (follows sizes.keys (slice_index_or self.old.workers seat.index nobody) hand got).worker result ≡ follows sizes.keys (slice_index_or self.old.workers seat.index nobody) hand got }
     {
         let worker = &mut self.workers[seat.index as usize];
-        worker.follow(sizes, hand, next)
+        worker.follow(sizes, hand, got)
     }
 }

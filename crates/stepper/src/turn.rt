@@ -76,8 +76,7 @@ impl<M: CellMemory> Run<M> {
         let hand = self.hand(seat);
         let touch = self.table.worker(seat).place.touch(hand.spare);
         let got = self.board.perform(touch);
-        let next = self.table.worker(seat).place.next(hand, got);
-        let step = self.table.follow(seat, self.board.sizes, hand, next);
+        let step = self.table.follow(seat, self.board.sizes, hand, got);
         self.board.enter(seat.index, step.entry);
         step.answer
     }

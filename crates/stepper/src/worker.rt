@@ -1,13 +1,17 @@
 // What is kept of each worker beside the cells.
 ghost use Rattle.std.specs.Prelude.{◌≡◌};
-ghost use Rattle.stepper.specs.Workers.{fresh, linked_of, arrived, out_answer, after_step, followed};
+ghost use Rattle.std.specs.declared.ops.ControlFlow.TheVariants.{Break};
+ghost use Rattle.places.specs.Outs.{out_of};
+ghost use Rattle.books.specs.Walked.{walked_of};
+ghost use Rattle.stepper.specs.Workers.{fresh, linked_of, counted, arrived, arriving, after_step, served, follows};
 
 use books::book::Book;
 use books::walked::Entry;
 use codes::Answer;
 use layout::names::{Field, Kind};
 use layout::sizes::Sizes;
-use places::place::{Hand, Next, Out, Place, Purpose, Stage, Walk};
+use places::place::{Got, Hand, Place, Purpose, Rest, Stage, Walk};
+use std::ops::ControlFlow;
 
 // A worker's page: not finished, finished, or handed out with a ticket.
 #[derive(Clone, Copy, PartialEq, Eq, Debug)]
@@ -60,48 +64,80 @@ impl Worker {
         }
     }
 
-    // On to a place, or idle with an answer. A page that is answered with 30 or 31 is finished.
-    fn arrive(&mut self, out: Out) -> Option<Answer>
-        ensures answer { result ≡ out_answer out }
-        ensures after { self.new ≡ arrived self.old out }
+    // Counts a row that it linked.
+    fn count(&mut self, kind: Kind)
+        ensures { self.new ≡ counted self.old kind }
     {
-        match out {
-            Out::Continue(place) => {
-                self.place = place;
-                None
-            }
-            Out::Break(answer) => {
-                self.place = Place::Idle;
-                if let Answer::SnapshotTaken | Answer::ReachTaken = answer {
-                    self.page = PageState::Finished;
-                    self.serial = self.serial.saturating_add(1);
+        match kind {
+            Kind::Vertex => self.vlinked = self.vlinked.saturating_add(1),
+            Kind::Edge => self.elinked = self.elinked.saturating_add(1),
+        }
+    }
+
+    // A worker that answers is idle. A page that is answered with 30 or 31 is finished.
+    fn answer(&mut self, answer: Answer)
+        ensures { self.new ≡ arrived self.old (Break answer) }
+    {
+        self.place = Place::Idle;
+        if let Answer::SnapshotTaken | Answer::ReachTaken = answer {
+            self.page = PageState::Finished;
+            self.serial = self.serial.saturating_add(1);
+        }
+    }
+
+    // The place has moved, or the call answers.
+    fn arrive(&mut self, answer: Option<Answer>) -> Step
+        ensures { after_step self.new result ≡ arriving self.old (out_of self.old.place answer) }
+    {
+        if let Some(answer) = answer {
+            self.answer(answer);
+        }
+        Step {
+            answer,
+            entry: Entry::Nothing,
+        }
+    }
+
+    // A walk has come to its end: on to the next one, or the answer.
+    fn walked(&mut self, walk: Walk, sizes: Sizes, row: u32, hand: Hand) -> Step
+        ensures { after_step self.new result ≡ served self.old (walked_of self.old.book walk sizes.keys row hand) }
+    {
+        let survey = walk.survey;
+        let served = self.book.walked(walk, sizes, row, hand);
+        let entry = served.entry;
+        match served.flow {
+            ControlFlow::Continue(job) => {
+                self.place = Place::WalkHead(Walk { survey, job });
+                Step {
+                    answer: None,
+                    entry,
                 }
-                Some(answer)
+            }
+            ControlFlow::Break(answer) => {
+                self.answer(answer);
+                Step {
+                    answer: Some(answer),
+                    entry,
+                }
             }
         }
     }
 
-    // What a turn makes of the record. Each case sets the place itself: one text for all cases behind the match slows a turn by a fifth.
-    pub fn follow(&mut self, sizes: Sizes, hand: Hand, next: Next) -> Step
-        ensures { after_step self.new result ≡ followed sizes.keys self.old hand next }
+    // What a turn makes of the record. The place moves where it is.
+    pub fn follow(&mut self, sizes: Sizes, hand: Hand, got: Got) -> Step
+        ensures { after_step self.new result ≡ follows sizes.keys self.old hand got }
     {
-        match next {
-            Next::Out(out) => Step {
-                answer: self.arrive(out),
-                entry: Entry::Nothing,
-            },
-            Next::Linked(change, row) => {
-                match change.kind() {
-                    Kind::Vertex => self.vlinked = self.vlinked.saturating_add(1),
-                    Kind::Edge => self.elinked = self.elinked.saturating_add(1),
-                }
+        match self.place.next(hand, got) {
+            Rest::Out(answer) => self.arrive(answer),
+            Rest::Linked(change, row) => {
+                self.count(change.kind());
                 self.place = Place::Settle(Stage::First, Purpose::Own(Field::Ins, change, row));
                 Step {
                     answer: None,
                     entry: Entry::Nothing,
                 }
             }
-            Next::Raised(survey, t) => {
+            Rest::Raised(survey, t) => {
                 self.book = Book::blank(t);
                 self.place = Place::WalkHead(Walk {
                     survey,
@@ -112,13 +148,7 @@ impl Worker {
                     entry: Entry::Clear,
                 }
             }
-            Next::Walked(walk, row) => {
-                let served = self.book.walked(walk, sizes, row, hand);
-                Step {
-                    answer: self.arrive(served.out),
-                    entry: served.entry,
-                }
-            }
+            Rest::Walked(walk, row) => self.walked(walk, sizes, row, hand),
         }
     }
 }

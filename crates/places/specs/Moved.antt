@@ -1,0 +1,23 @@
+-- What follows from a place and what its turn gave.
+use Rattle.std.specs.Prelude.{ℕ}
+use Rattle.places.specs.Outs as outs
+use Rattle.places.specs.declared.place.Change.{Change}
+use Rattle.places.specs.declared.place.Survey.{Survey}
+use Rattle.places.specs.declared.place.Walk.{Walk}
+use Rattle.places.specs.declared.place.Place.{Place}
+use Rattle.places.specs.declared.place.Rest.{Rest}
+use Rattle.places.specs.declared.place.Rest.TheVariants as rest
+
+-- a place or an answer; a row linked; the clock raised; the end of a walk, with the visible row
+pub data Next : Type 0 where
+  Out : (o : outs.Out) → Next
+  Linked : (c : Change) (r : ℕ) → Next
+  Raised : (v : Survey) (t : ℕ) → Next
+  Walked : (k : Walk) (r : ℕ) → Next
+
+-- the place that it moved to, and what is left to do
+abbrev pub next_from : Place → Rest → Next
+next_from p (rest.Out a) = Next.Out (outs.out_of p a)
+next_from p (rest.Linked c r) = Next.Linked c r
+next_from p (rest.Raised v t) = Next.Raised v t
+next_from p (rest.Walked k r) = Next.Walked k r
