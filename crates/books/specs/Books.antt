@@ -1,17 +1,18 @@
 -- The book of a snapshot or reach.
 use Rattle.std.specs.Prelude.{ℕ, ◌+◌, Bool, cond, Some, None, Option, is_some, replicate, nat_lt, slice_index_or, slice_set}
 use Rattle.std.specs.Option.{unwrap_or}
+use Rattle.layout.specs.Rows.{no_row}
 use Rattle.books.specs.declared.book.KeyState.{KeyState}
 use Rattle.books.specs.declared.book.Book.{Book}
 
 -- a key that is not shown and had no walk
 abbrev pub unknown : KeyState
-unknown = record { shown = 0; found = None }
+unknown = record { shown = no_row; found = None }
 
 abbrev pub blank : ℕ → Book
 blank t = record { t = t; keys = replicate 64 unknown; queue = replicate 64 0; len = 0 }
 
--- what the page shows of key k
+-- the row that the page shows of key k
 abbrev pub shown_of : Book → ℕ → ℕ
 shown_of b k = (slice_index_or b.keys k unknown).shown
 
@@ -19,9 +20,9 @@ shown_of b k = (slice_index_or b.keys k unknown).shown
 abbrev pub found_of : Book → ℕ → Option ℕ
 found_of b k = (slice_index_or b.keys k unknown).found
 
--- the visible row that the walk of key k found; row number 0 is none, as in the cells
+-- the visible row that the walk of key k found
 abbrev pub row_of : Book → ℕ → ℕ
-row_of b k = unwrap_or (found_of b k) 0
+row_of b k = unwrap_or (found_of b k) no_row
 
 -- key k has had its walk
 abbrev pub is_seen : Book → ℕ → Bool

@@ -4,6 +4,7 @@ use Rattle.codes.specs.declared.answer.Answer.{Answer}
 use Rattle.codes.specs.declared.answer.Answer.TheVariants.{SnapshotTaken, ReachTaken}
 use Rattle.std.specs.declared.ops.ControlFlow.{ControlFlow}
 use Rattle.std.specs.declared.ops.ControlFlow.TheVariants.{Continue, Break}
+use Rattle.layout.specs.Rows.{no_row}
 use Rattle.places.specs.Outs.{Out}
 use Rattle.places.specs.declared.place.Survey.{Survey}
 use Rattle.places.specs.declared.place.Survey.TheVariants.{Snapshot, Reach}
@@ -21,7 +22,7 @@ survey_done (Reach i) = ReachTaken
 
 -- a snapshot walks pairs of two visible keys, a reach all pairs of the key it serves; no key is paired with itself
 abbrev pub open_pair : Book → Survey → ℕ → ℕ → Bool
-open_pair b Snapshot i j = not (i == j) && (not (shown_of b i == 0) && not (shown_of b j == 0))
+open_pair b Snapshot i j = not (i == j) && (not (shown_of b i == no_row) && not (shown_of b j == no_row))
 open_pair b (Reach s) i j = not (i == j)
 
 -- pair number x is of the (x / n)-th key to serve and the key x % n

@@ -2,6 +2,7 @@
 use Rattle.std.specs.Prelude.{ℕ, ◌+◌, Bool, false, cond, not, ◌||◌, ◌==◌, nat_lt}
 use Rattle.codes.specs.declared.answer.Answer.TheVariants.{VertexAbsent}
 use Rattle.std.specs.declared.ops.ControlFlow.TheVariants.{Continue, Break}
+use Rattle.layout.specs.Rows.{no_row}
 use Rattle.places.specs.Outs.{Out}
 use Rattle.places.specs.declared.place.Survey.{Survey}
 use Rattle.places.specs.declared.place.Survey.TheVariants.{Snapshot, Reach}
@@ -44,14 +45,14 @@ key_walked b v n k r = record {
 -- The start of a reach: 13 where it is absent; else it is the first to join.
 abbrev pub start_walked : Book → Survey → ℕ → ℕ → ℕ → Outcome
 start_walked b v n k r =
-    cond (r == 0)
+    cond (r == no_row)
     (record { book = b; out = Break VertexAbsent; entry = entry.Nothing })
     (record { book = walked_joined b k r; out = serve_from (walked_joined b k r) v n 0; entry = entry.Key k r })
 
 -- only a reach lets keys join here, and each only once
 abbrev pub joins : Survey → ℕ → Bool
 joins Snapshot shown = false
-joins (Reach i) shown = shown == 0
+joins (Reach i) shown = shown == no_row
 
 -- The target of a visible edge row has had its walk: the edge is there if its target row is the visible row of its key.
 abbrev pub resolved : Book → Survey → ℕ → Leg → Hand → Outcome
@@ -65,7 +66,7 @@ resolved b v n l h =
 -- A pair: a visible row whose source is the served key's row leads to a walk of its target, once in the call.
 abbrev pub pair_walked : Book → Survey → ℕ → Leg → ℕ → Hand → Outcome
 pair_walked b v n l r h =
-    cond (r == 0 || not (h.source == shown_of b l.from))
+    cond (r == no_row || not (h.source == shown_of b l.from))
     (record { book = b; out = serve_from b v n (l.number + 1); entry = entry.Nothing })
     (cond (is_seen b l.to)
     (resolved b v n l h)

@@ -2,8 +2,9 @@
 ghost use Rattle.std.specs.Prelude.{◌≡◌, slice_index};
 ghost use Rattle.books.specs.Books.{blank, shown_of, found_of, row_of, is_seen, with_row, joined};
 
-// What a book holds of a key: what the page shows of it, and what its walk found, or None before its walk. Row number 0 is none, as
-// in the cells. A key that has had its walk and did not join is not shown.
+use layout::rows::NO_ROW;
+
+// What a book holds of a key: the row that the page shows of it, and the row that its walk found, or None before its walk. A key that has had its walk and did not join is not shown.
 #[derive(Clone, Copy, PartialEq, Eq, Debug)]
 pub struct KeyState {
     pub shown: u32,
@@ -26,7 +27,7 @@ impl Book {
         Book {
             t,
             keys: [KeyState {
-                shown: 0,
+                shown: NO_ROW,
                 found: None,
             }; 64],
             queue: [0; 64],
@@ -38,7 +39,7 @@ impl Book {
     pub fn key(&self, k: u8) -> u32
         ensures { result ≡ shown_of self.now k }
     {
-        self.keys.get(k as usize).map_or(0, |key| key.shown)
+        self.keys.get(k as usize).map_or(NO_ROW, |key| key.shown)
     }
 
     // What the walk of a key found, or None before its walk.
@@ -52,7 +53,7 @@ impl Book {
     pub fn row(&self, k: u8) -> u32
         ensures { result ≡ row_of self.now k }
     {
-        self.found(k).unwrap_or(0)
+        self.found(k).unwrap_or(NO_ROW)
     }
 
     // Whether a key has had its walk.
@@ -73,7 +74,7 @@ impl Book {
     pub fn walk(&mut self, k: u8, row: u32)
         ensures { self.new ≡ with_row self.old k row }
     {
-        // Of a slice that `get_mut` lent a proof knows no element.
+        // After a write through `get_mut` a proof knows nothing of the keys.
         if k < 64 {
             self.keys[k as usize].found = Some(row);
         }
@@ -85,7 +86,7 @@ impl Book {
     {
         if self.len < 64 {
             let row = self.row(k);
-            // Of a slice that `get_mut` lent a proof knows no element.
+            // After a write through `get_mut` a proof knows nothing of the keys.
             if k < 64 {
                 self.keys[k as usize].shown = row;
             }

@@ -4,6 +4,7 @@ ghost use Rattle.books.specs.Serving.{open_pair, open_from, serve_from, survey_d
 
 use crate::book::Book;
 use codes::Answer;
+use layout::rows::NO_ROW;
 use layout::sizes::Sizes;
 use places::place::{Job, Leg, Survey};
 use std::ops::ControlFlow;
@@ -25,7 +26,7 @@ impl Book {
         ensures { result ≡ open_pair self.now survey from to }
     {
         match survey {
-            Survey::Snapshot => from != to && self.key(from) != 0 && self.key(to) != 0,
+            Survey::Snapshot => from != to && self.key(from) != NO_ROW && self.key(to) != NO_ROW,
             Survey::Reach(_) => from != to,
         }
     }

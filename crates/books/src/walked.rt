@@ -4,6 +4,7 @@ ghost use Rattle.books.specs.Walked.{outcome, key_walked, start_walked, pair_wal
 
 use crate::book::Book;
 use codes::Answer;
+use layout::rows::NO_ROW;
 use layout::sizes::Sizes;
 use places::place::{Hand, Job, Leg, Survey, Walk};
 use std::ops::ControlFlow;
@@ -49,7 +50,7 @@ impl Book {
     fn start_walked(&mut self, survey: Survey, sizes: Sizes, key: u8, row: u32) -> Served
         ensures { outcome survey self.new result ≡ start_walked self.old survey sizes.keys key row }
     {
-        if row == 0 {
+        if row == NO_ROW {
             return Served {
                 flow: ControlFlow::Break(Answer::VertexAbsent),
                 entry: Entry::Nothing,
@@ -70,7 +71,7 @@ impl Book {
         let row = self.row(leg.to);
         let entry = match survey {
             _ if hand.target != row => Entry::Nothing,
-            Survey::Reach(_) if self.key(leg.to) == 0 => {
+            Survey::Reach(_) if self.key(leg.to) == NO_ROW => {
                 self.join(leg.to);
                 Entry::Join(leg.from, leg.to, hand.weight, row)
             }
@@ -93,7 +94,7 @@ impl Book {
     ) -> Served
         ensures { outcome survey self.new result ≡ pair_walked self.old survey sizes.keys leg row hand }
     {
-        if row == 0 || hand.source != self.key(leg.from) {
+        if row == NO_ROW || hand.source != self.key(leg.from) {
             return Served {
                 flow: self.serve(survey, sizes, leg.number as usize + 1),
                 entry: Entry::Nothing,
@@ -108,7 +109,7 @@ impl Book {
         }
     }
 
-    // `row` is the visible row; row number 0 is none, as in the cells. One arm for each clause of `walked_at`, so a match.
+    // `row` is the visible row. One arm for each clause of `walked_at`, so a match.
     pub fn walked(&mut self, walk: Walk, sizes: Sizes, row: u32, hand: Hand) -> Served
         ensures { outcome walk.survey self.new result ≡ walked_of self.old walk sizes.keys row hand }
     {

@@ -1,6 +1,7 @@
 -- The sorts of what follows a place: only a link turn links, only a raise raises, and only a walk's own place ends that walk.
 use Rattle.std.proofs.Common.{rules, ◌≡◌, ℕ, Bool, true, false, Some, None, Option, refl}
 use Rattle.layout.specs.declared.names.Field.TheVariants.{Ins, Del}
+use Rattle.places.specs.declared.mark.Mark.{Mark}
 use Rattle.places.specs.declared.place.Side.TheVariants.{Source}
 use Rattle.places.specs.declared.place.Survey.{Survey}
 use Rattle.places.specs.declared.place.Change.{Change}
@@ -14,7 +15,7 @@ use Rattle.places.specs.declared.place.Place.{Place}
 use Rattle.places.specs.declared.place.Place.TheVariants as place
 use Rattle.places.specs.Moved.{Next, Next as next}
 use Rattle.places.specs.Walks.{walked_ins}
-use Rattle.places.specs.Nexts.{number_of, link_done, raise_done, settled, next_of}
+use Rattle.places.specs.Nexts.{link_done, raise_done, settled, next_of}
 
 -- the walk that a place belongs to
 abbrev pub AtWalk : Place → Walk → Type 0
@@ -35,16 +36,16 @@ Follows p h (next.Linked c r) = LinkTurn p h c r
 Follows p h (next.Raised v t) = p ≡ place.Raise v
 Follows p h (next.Walked k r) = AtWalk p k
 
-follows_ins : (p : Place) (h : Hand) (k : Walk) (r n : ℕ) → AtWalk p k → Follows p h (walked_ins k r h n)
-follows_ins p h k r n a = search rules
+follows_ins : (p : Place) (h : Hand) (k : Walk) (r : ℕ) (m : Mark) → AtWalk p k → Follows p h (walked_ins k r h m)
+follows_ins p h k r m a = search rules
 
-follows_settled : (st : Stage) (q : Purpose) (h : Hand) (n : ℕ) → Follows (place.Settle st q) h (settled q h n)
-follows_settled st (purpose.Look Ins l r) h n = tt
-follows_settled st (purpose.Again Source o b f) h n = tt
-follows_settled st (purpose.Compare Source b f e x) h n = tt
-follows_settled st (purpose.Walk Ins k r) h n = follows_ins (place.Settle st (purpose.Walk Ins k r)) h k r n refl
-follows_settled st (purpose.Walk Del k r) h n = refl
-follows_settled st q h n = tt
+follows_settled : (st : Stage) (q : Purpose) (h : Hand) (m : Mark) → Follows (place.Settle st q) h (settled q h m)
+follows_settled st (purpose.Look Ins l r) h m = tt
+follows_settled st (purpose.Again Source o b f) h m = tt
+follows_settled st (purpose.Compare Source b f e x) h m = tt
+follows_settled st (purpose.Walk Ins k r) h m = follows_ins (place.Settle st (purpose.Walk Ins k r)) h k r m refl
+follows_settled st (purpose.Walk Del k r) h m = refl
+follows_settled st q h m = tt
 
 follows_link : (c : Change) (o : ℕ) (h : Hand) (spare : Option ℕ) (done : Bool) → h.spare ≡ spare → Follows (place.Link c o) h (link_done c spare done)
 follows_link c o h None done e = tt
@@ -60,9 +61,9 @@ follows (place.Head l) h g = search rules
 follows (place.Settle stage.First q) h g = search (rules, follows_settled)
 follows (place.Settle stage.Clock q) h g = tt
 follows (place.Settle (stage.Swap n) q) h g = tt
-follows (place.Settle stage.Again q) h g = follows_settled stage.Again q h (number_of g)
+follows (place.Settle stage.Again q) h g = follows_settled stage.Again q h _
 follows (place.Link c o) h g = follows_link c o h h.spare _ refl
 follows (place.Raise v) h g = follows_raise v h g
 follows (place.WalkHead k) h g = search rules
-follows (place.WalkOlder k r) h g = follows_ins (place.WalkOlder k r) h k r (number_of g) refl
+follows (place.WalkOlder k r) h g = follows_ins (place.WalkOlder k r) h k r _ refl
 follows p h g = tt

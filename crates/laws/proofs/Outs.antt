@@ -9,6 +9,7 @@ use Rattle.layout.specs.declared.names.Field.{Field}
 use Rattle.layout.specs.declared.names.Field.TheVariants.{Ins, Del}
 use Rattle.layout.specs.declared.names.Head.TheVariants as head
 use Rattle.layout.specs.declared.names.Cell.TheVariants as cell
+use Rattle.places.specs.declared.mark.Mark.{Mark}
 use Rattle.places.specs.declared.place.Op.{Op}
 use Rattle.places.specs.declared.place.Op.TheVariants.{Add, Remove, Contains}
 use Rattle.places.specs.declared.place.Pair.{Pair}
@@ -75,17 +76,17 @@ module _ (s : State) where
   absent_fit (look.Edge o b) r f g = look_found_fit o b (Err r) f g
   absent_fit l r f g = tt
 
-  looked_fit : (l : Look) (r : ℕ) (h : Hand) (n : ℕ) → FitLook s l → Held s (look_head l) r → FitOut s (looked l r h n)
-  looked_fit l r h n f g = search (rules, alive_fit, absent_fit)
+  looked_fit : (l : Look) (r : ℕ) (h : Hand) (m : Mark) → FitLook s l → Held s (look_head l) r → FitOut s (looked l r h m)
+  looked_fit l r h m f g = search (rules, alive_fit, absent_fit)
 
   unless_fit : (gone : Bool) (o : Out) → FitOut s o → FitOut s (unless_gone gone o)
   unless_fit true o f = tt
   unless_fit false o f = f
 
-  owned_fit : (g : Field) (c : Change) (r n : ℕ) → FitChange s c → FitOut s (owned g c r n)
-  owned_fit Ins (change.Vertex i) r n f = tt
-  owned_fit Del (change.Vertex i) r n f = tt
-  owned_fit g (change.Edge b) r n f = f
+  owned_fit : (g : Field) (c : Change) (r : ℕ) (m : Mark) → FitChange s c → FitOut s (owned g c r m)
+  owned_fit Ins (change.Vertex i) r m f = tt
+  owned_fit Del (change.Vertex i) r m f = tt
+  owned_fit g (change.Edge b) r m f = f
 
   lost_to_fit : (c : Change) (r : ℕ) → FitChange s c → Held s (change_head c) r → FitOut s (lost_to c r)
   lost_to_fit (change.Vertex i) r f g = tt
@@ -112,31 +113,31 @@ module _ (s : State) where
   nonzero k r (inl z) e = absurd (eqb-false r 0 e z)
   nonzero k r (inr l) e = l
 
-  walked_ins_fit : (k : Walk) (r : ℕ) (h : Hand) (n : ℕ) → FitJob s k.job → Linked s (job_kind k.job) r → RowOrNone s (job_kind k.job) h.older → FitsNext s (walked_ins k r h n)
-  walked_ins_fit k r h n f l o = search (rules, nonzero)
+  walked_ins_fit : (k : Walk) (r : ℕ) (h : Hand) (m : Mark) → FitJob s k.job → Linked s (job_kind k.job) r → RowOrNone s (job_kind k.job) h.older → FitsNext s (walked_ins k r h m)
+  walked_ins_fit k r h m f l o = search (rules, nonzero)
 
   -- what is at hand to settle a field
   abbrev pub HandAt : Purpose → Hand → Type 0
   HandAt (purpose.Walk Ins k r) h = RowOrNone s (job_kind k.job) h.older
   HandAt p h = Unit {0}
 
-  settled_fit : (p : Purpose) (h : Hand) (n : ℕ) → FitPurpose s p → HandAt p h → FitsNext s (settled p h n)
-  settled_fit (purpose.Look Ins l r) h n f a = f
-  settled_fit (purpose.Look Del l r) h n f a = looked_fit l r h n f.0 f.1
-  settled_fit (purpose.Own g c r) h n f a = owned_fit g c r n f.0
-  settled_fit (purpose.LostDel c r) h n f a = lost_to_fit c r f.0 f.1
-  settled_fit (purpose.WonIns i r) h n f a = tt
-  settled_fit (purpose.BindAgain o b) h n f a = unless_fit (is_ended (mark_of n)) _ f
-  settled_fit (purpose.Again Source o b g) h n f a = unless_fit (is_ended (mark_of n)) _ f
-  settled_fit (purpose.Again Target o b g) h n f a = unless_fit (is_ended (mark_of n)) _ (checked_fit o b g f.0 f.1)
-  settled_fit (purpose.Compare Source b g e x) h n f a = unless_fit (is_below x (mark_of n)) _ f
-  settled_fit (purpose.Compare Target b g e x) h n f a = unless_fit (is_below x (mark_of n)) _ tt
-  settled_fit (purpose.Walk Ins k r) h n f a = walked_ins_fit k r h n f.0 f.1 a
-  settled_fit (purpose.Walk Del k r) h n f a = f.0
+  settled_fit : (p : Purpose) (h : Hand) (m : Mark) → FitPurpose s p → HandAt p h → FitsNext s (settled p h m)
+  settled_fit (purpose.Look Ins l r) h m f a = f
+  settled_fit (purpose.Look Del l r) h m f a = looked_fit l r h m f.0 f.1
+  settled_fit (purpose.Own g c r) h m f a = owned_fit g c r m f.0
+  settled_fit (purpose.LostDel c r) h m f a = lost_to_fit c r f.0 f.1
+  settled_fit (purpose.WonIns i r) h m f a = tt
+  settled_fit (purpose.BindAgain o b) h m f a = unless_fit (is_ended m) _ f
+  settled_fit (purpose.Again Source o b g) h m f a = unless_fit (is_ended m) _ f
+  settled_fit (purpose.Again Target o b g) h m f a = unless_fit (is_ended m) _ (checked_fit o b g f.0 f.1)
+  settled_fit (purpose.Compare Source b g e x) h m f a = unless_fit (is_below x m) _ f
+  settled_fit (purpose.Compare Target b g e x) h m f a = unless_fit (is_below x m) _ tt
+  settled_fit (purpose.Walk Ins k r) h m f a = walked_ins_fit k r h m f.0 f.1 a
+  settled_fit (purpose.Walk Del k r) h m f a = f.0
 
   settling_fit : (st : Stage) (p : Purpose) (h : Hand) (n : ℕ) → FitPurpose s p → HandAt p h → FitsNext s (settling st p h n)
   settling_fit stage.First p h n f a = search (rules, settled_fit)
-  settling_fit stage.Again p h n f a = settled_fit p h n f a
+  settling_fit stage.Again p h n f a = settled_fit p h (mark_of n) f a
   settling_fit st p h n f a = f
 
   -- what a turn at a place gave, where it matters
@@ -165,4 +166,4 @@ module _ (s : State) where
   next_of_fit (place.LostHead i) h g f a = won_of i (number_of g) f.1 a.0 a.1
   next_of_fit (place.Raise v) h g f a = raise_done_fit v g f
   next_of_fit (place.WalkHead k) h g f a = search (rules, nonzero)
-  next_of_fit (place.WalkOlder k r) h g f a = walked_ins_fit k r h (number_of g) f.0 f.1 a
+  next_of_fit (place.WalkOlder k r) h g f a = walked_ins_fit k r h (mark_of (number_of g)) f.0 f.1 a

@@ -6,7 +6,7 @@ use Rattle.layout.specs.declared.names.Head.{Head}
 use Rattle.layout.specs.declared.names.Head.TheVariants as head
 use Rattle.layout.specs.declared.names.Cell.TheVariants as cell
 use Rattle.layout.specs.Layout.{needed}
-use Rattle.layout.specs.Rows.{row_at}
+use Rattle.layout.specs.Rows.{no_row, row_at}
 use Rattle.places.specs.declared.place.Pair.{Pair}
 use Rattle.places.specs.declared.place.Bound.{Bound}
 use Rattle.places.specs.declared.place.Look.{Look}
@@ -44,10 +44,10 @@ pub record Held (s : State) (h : Head) (r : ℕ) : Type 0 where
 
 -- no row, or a linked one
 abbrev pub RowOrNone : State → Kind → ℕ → Type 0
-RowOrNone s k r = (r ≡ 0) ⊎ Linked s k r
+RowOrNone s k r = (r ≡ no_row) ⊎ Linked s k r
 
 abbrev pub HeldOrNone : State → Head → ℕ → Type 0
-HeldOrNone s h r = (r ≡ 0) ⊎ Held s h r
+HeldOrNone s h r = (r ≡ no_row) ⊎ Held s h r
 
 abbrev pub FitPair : State → Pair → Type 0
 FitPair s p = IsKey s p.from × IsKey s p.to

@@ -4,7 +4,7 @@ use Rattle.layout.specs.declared.sizes.Sizes.{Sizes}
 use Rattle.layout.specs.declared.names.Kind.{Kind}
 use Rattle.layout.specs.declared.names.Kind.TheVariants.{Vertex, Edge}
 
--- the number that stands for no row
+-- the number of no row, in the cells and wherever a row is named
 abbrev pub no_row : ℕ
 no_row = 0
 

@@ -5,6 +5,9 @@ ghost use Rattle.layout.specs.Rows.{rows_each, row_at};
 use crate::names::Kind;
 use crate::sizes::Sizes;
 
+// The number of no row, in the cells and wherever a row is named.
+pub const NO_ROW: u32 = 0;
+
 impl Sizes {
     // How many rows of a kind each worker owns.
     pub fn rows_each(&self, kind: Kind) -> usize

@@ -17,11 +17,13 @@ use Rattle.places.specs.declared.call.Begin.{Begin}
 abbrev pub op_of : ℕ → Op
 op_of n = cond (n == 1) Add (cond (n == 4) Add (cond (n == 2) Remove (cond (n == 5) Remove Contains)))
 
--- calls 4 to 6 use both keys, which have to differ; call 7 uses none; the others use the first
+-- an edge call names two keys, which have to differ
+abbrev pub edge_keys_fit : ℕ → Begin → Bool
+edge_keys_fit n b = nat_lt b.from n && (nat_lt b.to n && not (b.from == b.to))
+
+-- calls 4 to 6 use both keys; call 7 uses none; the others use the first
 abbrev pub keys_fit : ℕ → Begin → Bool
-keys_fit n b =
-    cond (between 4 b.call 6) (nat_lt b.from n && (nat_lt b.to n && not (b.from == b.to)))
-    (cond (b.call == 7) true (nat_lt b.from n))
+keys_fit n b = cond (between 4 b.call 6) (edge_keys_fit n b) (cond (b.call == 7) true (nat_lt b.from n))
 
 abbrev pub adds : Op → Bool
 adds Add = true
@@ -29,29 +31,32 @@ adds Remove = false
 adds Contains = false
 
 -- only an add of an edge uses the weight
+abbrev pub edge_weight_fits : Op → Begin → Bool
+edge_weight_fits o b = cond (adds o) (between 1 b.weight 1000000) true
+
 abbrev pub weight_fits : Begin → Bool
-weight_fits b = cond (b.call == 4) (between 1 b.weight 1000000) true
+weight_fits b = cond (between 4 b.call 6) (edge_weight_fits (op_of b.call) b) true
+
+abbrev pub edge_named : Op → Begin → Call
+edge_named o b = call.Edge o (record { from = b.from; to = b.to; weight = b.weight })
 
 abbrev pub call_named : Begin → Call
 call_named b =
     cond (nat_le b.call 3) (call.Vertex (op_of b.call) b.from)
-    (cond (nat_le b.call 6) (call.Edge (op_of b.call) (record { from = b.from; to = b.to; weight = b.weight }))
+    (cond (nat_le b.call 6) (edge_named (op_of b.call) b)
     (cond (b.call == 7) (call.Survey Snapshot) (call.Survey (Reach b.from))))
 
--- a call of an edge that does op: its keys have to differ and be keys, and the weight of an add has its limits
+-- the call, where its keys and its weight fit; else the first refusal that holds
+abbrev pub fitting : Bool → Bool → Call → Result Call Refusal
+fitting keys weight c = cond keys (cond weight (Ok c) (Err WeightOutside)) (Err KeyOutside)
+
 abbrev pub edge_call : ℕ → Op → Begin → Result Call Refusal
-edge_call n o b =
-    cond (nat_lt b.from n && (nat_lt b.to n && not (b.from == b.to)))
-    (cond (adds o) (cond (between 1 b.weight 1000000) (Ok (call.Edge o (record { from = b.from; to = b.to; weight = b.weight }))) (Err WeightOutside))
-    (Ok (call.Edge o (record { from = b.from; to = b.to; weight = b.weight }))))
-    (Err KeyOutside)
+edge_call n o b = fitting (edge_keys_fit n b) (edge_weight_fits o b) (edge_named o b)
 
 -- the first refusal that holds, or the call
 abbrev pub call_of : ℕ → Begin → Result Call Refusal
 call_of n b =
-    cond (between 1 b.call 8)
-    (cond (keys_fit n b) (cond (weight_fits b) (Ok (call_named b)) (Err WeightOutside)) (Err KeyOutside))
-    (Err NoSuchCall)
+    cond (between 1 b.call 8) (fitting (keys_fit n b) (weight_fits b) (call_named b)) (Err NoSuchCall)
 
 -- a vertex call looks at its vertex, an edge call at its source; a snapshot or reach raises the clock
 abbrev pub place_first : Call → Place

@@ -2,6 +2,7 @@
 use Rattle.std.specs.Prelude.{ℕ, Some, None, Option}
 use Rattle.layout.specs.declared.names.Kind.{Kind}
 use Rattle.layout.specs.declared.names.Field.TheVariants.{Ins, Del}
+use Rattle.layout.specs.Rows.{no_row}
 use Rattle.places.specs.Touches.{change_kind, job_kind}
 use Rattle.places.specs.declared.place.Look.TheVariants as look
 use Rattle.places.specs.declared.place.Job.{Job}
@@ -26,18 +27,18 @@ older_row p = None
 abbrev pub job_edge : Job → ℕ → ℕ
 job_edge (job.Pair l) r = r
 job_edge (job.Target l e) r = e
-job_edge j r = 0
+job_edge j r = no_row
 
 -- the edge row whose field is settled, where its source, target or weight may be wanted
 abbrev pub edge_of : Purpose → ℕ
 edge_of (purpose.Look Del (look.Edge o b) r) = r
-edge_of (purpose.Walk Ins k r) = job_edge (k.job) 0
+edge_of (purpose.Walk Ins k r) = job_edge (k.job) no_row
 edge_of (purpose.Walk Del k r) = job_edge k.job r
-edge_of p = 0
+edge_of p = no_row
 
--- the edge row whose source, target or weight may be wanted; row number 0 is none, as in the cells
+-- the edge row whose source, target or weight may be wanted
 abbrev pub edge_row : Place → ℕ
 edge_row (place.Settle st p) = edge_of p
-edge_row (place.WalkHead k) = job_edge (k.job) 0
-edge_row (place.WalkOlder k r) = job_edge (k.job) 0
-edge_row p = 0
+edge_row (place.WalkHead k) = job_edge (k.job) no_row
+edge_row (place.WalkOlder k r) = job_edge (k.job) no_row
+edge_row p = no_row

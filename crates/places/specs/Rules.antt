@@ -6,8 +6,9 @@ use Rattle.codes.specs.declared.answer.Answer.{Answer}
 use Rattle.codes.specs.declared.answer.Answer.TheVariants.{VertexAdded, VertexAlready, VertexRemoved, VertexAbsent, VertexPresent, EdgeAdded, EdgeAlready, EdgeRemoved, EdgeAbsent, EdgePresent}
 use Rattle.layout.specs.declared.names.Field.{Field}
 use Rattle.layout.specs.declared.names.Field.TheVariants.{Ins, Del}
-use Rattle.places.specs.Marks.{mark_of, stamp_of, is_ended, is_below}
+use Rattle.places.specs.Marks.{stamp_of, is_ended, is_below}
 use Rattle.places.specs.Outs.{Out}
+use Rattle.places.specs.declared.mark.Mark.{Mark}
 use Rattle.places.specs.declared.place.Op.{Op}
 use Rattle.places.specs.declared.place.Op.TheVariants.{Add, Remove, Contains}
 use Rattle.places.specs.declared.place.Bound.{Bound}
@@ -60,20 +61,20 @@ absent (look.Vertex Add i) h = Continue (place.Link (change.Vertex i) h)
 absent (look.Edge o b) h = look_found o b (Err h)
 absent l h = Break VertexAbsent
 
-abbrev pub looked : Look → ℕ → Hand → ℕ → Out
-looked l r h n = cond (is_ended (mark_of n)) (absent l r) (alive l r h)
+abbrev pub looked : Look → ℕ → Hand → Mark → Out
+looked l r h del = cond (is_ended del) (absent l r) (alive l r h)
 
 -- a vertex that has ended, or ended below x, answers 13
 abbrev pub unless_gone : Bool → Out → Out
 unless_gone gone o = cond gone (Break VertexAbsent) o
 
 -- check again
-abbrev pub unless_ended : ℕ → Out → Out
-unless_ended n o = unless_gone (is_ended (mark_of n)) o
+abbrev pub unless_ended : Mark → Out → Out
+unless_ended del o = unless_gone (is_ended del) o
 
 -- compare x
-abbrev pub unless_below : ℕ → ℕ → Out → Out
-unless_below x n o = unless_gone (is_below x (mark_of n)) o
+abbrev pub unless_below : ℕ → Mark → Out → Out
+unless_below x del o = unless_gone (is_below x del) o
 
 -- the answer of a change of an edge: 20 for an ins, 22 for a del
 abbrev pub edge_changed : Field → Answer
@@ -81,10 +82,10 @@ edge_changed Ins = EdgeAdded
 edge_changed Del = EdgeRemoved
 
 -- the worker's own change bears its stamp: a vertex change answers, an edge change is compared with the ends of its two vertices
-abbrev pub owned : Field → Change → ℕ → ℕ → Out
-owned Ins (change.Vertex i) r n = Break VertexAdded
-owned Del (change.Vertex i) r n = Break VertexRemoved
-owned f (change.Edge b) r n = first (purpose.Compare Source b f r (unwrap_or (stamp_of (mark_of n)) 0))
+abbrev pub owned : Field → Change → ℕ → Mark → Out
+owned Ins (change.Vertex i) r m = Break VertexAdded
+owned Del (change.Vertex i) r m = Break VertexRemoved
+owned f (change.Edge b) r m = first (purpose.Compare Source b f r (unwrap_or (stamp_of m) 0))
 
 -- the swap of del was lost, and the winner's end bears its stamp: a vertex answers 13, an edge call checks again
 abbrev pub lost_to : Change → ℕ → Out

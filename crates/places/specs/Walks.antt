@@ -2,7 +2,7 @@
 use Rattle.std.specs.Prelude.{ℕ, Bool, true, false, cond, ◌==◌, nat_lt}
 use Rattle.std.specs.declared.ops.ControlFlow.TheVariants.{Continue}
 use Rattle.layout.specs.declared.names.Field.TheVariants.{Ins, Del}
-use Rattle.places.specs.Marks.{mark_of}
+use Rattle.layout.specs.Rows.{no_row}
 use Rattle.places.specs.Rules.{first}
 use Rattle.places.specs.declared.mark.Mark.{Mark}
 use Rattle.places.specs.declared.mark.Mark.TheVariants.{NotEnded, Pending, Stamp}
@@ -21,19 +21,19 @@ abbrev pub first_job : Survey → Job
 first_job Snapshot = job.Key 0
 first_job (Reach i) = job.Start i
 
--- a walk that comes to row 0 finds nothing visible
+-- a walk that comes to no row finds nothing visible
 abbrev pub walked_head : Walk → ℕ → Next
-walked_head k r = cond (r == 0) (next.Walked k 0) (next.Out (first (purpose.Walk Ins k r)))
+walked_head k r = cond (r == no_row) (next.Walked k no_row) (next.Out (first (purpose.Walk Ins k r)))
 
 abbrev pub above : ℕ → Mark → Bool
 above t NotEnded = false
 above t Pending = true
 above t (Stamp n) = nat_lt t n
 
-abbrev pub walked_ins : Walk → ℕ → Hand → ℕ → Next
-walked_ins k r h n =
-    cond (above h.t (mark_of n))
-    (cond (h.older == 0) (next.Walked k 0) (next.Out (Continue (place.WalkOlder k h.older))))
+abbrev pub walked_ins : Walk → ℕ → Hand → Mark → Next
+walked_ins k r h ins =
+    cond (above h.t ins)
+    (cond (h.older == no_row) (next.Walked k no_row) (next.Out (Continue (place.WalkOlder k h.older))))
     (next.Out (first (purpose.Walk Del k r)))
 
 -- visible if del is 0 or above t
@@ -42,5 +42,5 @@ visible t NotEnded = true
 visible t Pending = true
 visible t (Stamp n) = nat_lt t n
 
-abbrev pub walked_del : Walk → ℕ → Hand → ℕ → Next
-walked_del k r h n = next.Walked k (cond (visible h.t (mark_of n)) r 0)
+abbrev pub walked_del : Walk → ℕ → Hand → Mark → Next
+walked_del k r h del = next.Walked k (cond (visible h.t del) r no_row)

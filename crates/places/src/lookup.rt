@@ -94,10 +94,10 @@ impl Place {
     }
 
     // The row's del is settled.
-    pub(crate) fn looked(&mut self, look: Look, row: u32, hand: Hand, del: u32) -> Option<Answer>
+    pub(crate) fn looked(&mut self, look: Look, row: u32, hand: Hand, del: Mark) -> Option<Answer>
         ensures { out_of self.new result ≡ looked look row hand del }
     {
-        if Mark::from(del).is_ended() {
+        if del.is_ended() {
             self.absent(look, row)
         } else {
             self.alive(look, row, hand)
@@ -110,9 +110,9 @@ impl Place {
         change: Change,
         field: Field,
         row: u32,
-        number: u32,
+        mark: Mark,
     ) -> Option<Answer>
-        ensures { out_of self.new result ≡ owned field change row number }
+        ensures { out_of self.new result ≡ owned field change row mark }
     {
         match (change, field) {
             (Change::Vertex(_), Field::Ins) => Some(Answer::VertexAdded),
@@ -123,7 +123,7 @@ impl Place {
                 field,
                 row,
                 // No stamp counts as 0, as in `owned`.
-                Mark::from(number).stamp().unwrap_or(0),
+                mark.stamp().unwrap_or(0),
             )),
         }
     }

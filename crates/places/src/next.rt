@@ -9,6 +9,7 @@ use crate::mark::{Mark, PENDING};
 use crate::place::{Change, Got, Hand, Look, Op, Place, Purpose, Rest, Side, Stage};
 use codes::Answer;
 use layout::names::Field;
+use layout::rows::NO_ROW;
 
 // The answer of a change of an edge.
 fn edge_changed(field: Field) -> Answer
@@ -60,18 +61,17 @@ impl Place {
     }
 
     // The field is settled at a number. A vertex that is looked at once more and has ended answers 13.
-    fn settled(&mut self, purpose: Purpose, hand: Hand, number: u32) -> Rest
-        ensures { next_from self.new result ≡ settled purpose hand number }
+    fn settled(&mut self, purpose: Purpose, hand: Hand, mark: Mark) -> Rest
+        ensures { next_from self.new result ≡ settled purpose hand mark }
     {
-        let mark = Mark::from(number);
         Rest::Out(match purpose {
-            Purpose::Walk(Field::Ins, walk, row) => return self.ins_read(walk, row, hand, number),
-            Purpose::Walk(Field::Del, walk, row) => return self.del_read(walk, row, hand, number),
+            Purpose::Walk(Field::Ins, walk, row) => return self.ins_read(walk, row, hand, mark),
+            Purpose::Walk(Field::Del, walk, row) => return self.del_read(walk, row, hand, mark),
             Purpose::Look(Field::Ins, look, row) => {
                 self.settle(Purpose::Look(Field::Del, look, row))
             }
-            Purpose::Look(Field::Del, look, row) => self.looked(look, row, hand, number),
-            Purpose::Own(field, change, row) => self.owned(change, field, row, number),
+            Purpose::Look(Field::Del, look, row) => self.looked(look, row, hand, mark),
+            Purpose::Own(field, change, row) => self.owned(change, field, row, mark),
             Purpose::LostDel(change, row) => self.lost_to(change, row),
             Purpose::WonIns(_, _) => Some(Answer::VertexAlready),
             Purpose::BindAgain(_, _) | Purpose::Again(_, _, _, _) if mark.is_ended() => {
@@ -97,7 +97,7 @@ impl Place {
         // A read always gives a number; where nothing was done it counts as 0, as in `next_of`.
         match (*self, got.unwrap_or(0)) {
             (Place::Idle, _) => Rest::Out(None),
-            (Place::Head(look), 0) => Rest::Out(self.absent(look, 0)),
+            (Place::Head(look), NO_ROW) => Rest::Out(self.absent(look, NO_ROW)),
             (Place::Head(look), row) => {
                 Rest::Out(self.settle(Purpose::Look(Field::Ins, look, row)))
             }
@@ -108,7 +108,7 @@ impl Place {
                 self.settle_on(Stage::Swap(stamp), purpose)
             }
             (Place::Settle(Stage::Swap(_), purpose), _) => self.settle_on(Stage::Again, purpose),
-            (Place::Settle(_, purpose), number) => self.settled(purpose, hand, number),
+            (Place::Settle(_, purpose), number) => self.settled(purpose, hand, number.into()),
             (Place::Link(change, _), _) => self.link_done(change, hand.spare, got.is_some()),
             (Place::End(change, row), _) => Rest::Out(self.end_done(change, row, got.is_some())),
             (Place::LostHead(key), row) => Rest::Out(self.settle(Purpose::WonIns(key, row))),
@@ -117,7 +117,7 @@ impl Place {
                 None => Rest::Out(Some(Answer::ClockSpent)),
             },
             (Place::WalkHead(walk), row) => self.head_read(walk, row),
-            (Place::WalkOlder(walk, row), number) => self.ins_read(walk, row, hand, number),
+            (Place::WalkOlder(walk, row), number) => self.ins_read(walk, row, hand, number.into()),
         }
     }
 }

@@ -157,7 +157,6 @@ pub type Got = Option<u32>;
 pub struct Hand {
     pub spare: Option<u32>,
     pub t: u32,
-    // Row number 0 is none, as in the cells.
     pub older: u32,
     pub source: u32,
     pub target: u32,
@@ -171,6 +170,5 @@ pub enum Rest {
     Out(Option<Answer>),
     Linked(Change, u32),
     Raised(Survey, u32),
-    // Row number 0 is none, as in the cells.
     Walked(Walk, u32),
 }

@@ -4,16 +4,17 @@ ghost use Rattle.places.specs.Private.{link_kind, older_row, edge_row, job_edge}
 
 use crate::place::{Job, Look, Place, Purpose, Walk};
 use layout::names::{Field, Kind};
+use layout::rows::NO_ROW;
 
 impl Walk {
-    // Row number 0 is none, as in the cells.
+    // The edge row that the walk is about.
     fn edge_row(self, row: u32) -> u32
         ensures { result ≡ job_edge self.job row }
     {
         match self.job {
             Job::Target(_, edge) => edge,
             Job::Pair(_) => row,
-            _ => 0,
+            _ => NO_ROW,
         }
     }
 }
@@ -40,17 +41,17 @@ impl Place {
         }
     }
 
-    // The edge row whose source, target or weight may be wanted; row number 0 is none, as in the cells.
+    // The edge row whose source, target or weight may be wanted.
     pub fn edge_row(&self) -> u32
         ensures { result ≡ edge_row self.now }
     {
         match *self {
             Place::Settle(_, Purpose::Look(Field::Del, Look::Edge(_, _), row)) => row,
-            Place::Settle(_, Purpose::Walk(Field::Ins, walk, _)) => walk.edge_row(0),
+            Place::Settle(_, Purpose::Walk(Field::Ins, walk, _)) => walk.edge_row(NO_ROW),
             Place::Settle(_, Purpose::Walk(Field::Del, walk, row)) => walk.edge_row(row),
-            Place::WalkHead(walk) => walk.edge_row(0),
-            Place::WalkOlder(walk, _) => walk.edge_row(0),
-            _ => 0,
+            Place::WalkHead(walk) => walk.edge_row(NO_ROW),
+            Place::WalkOlder(walk, _) => walk.edge_row(NO_ROW),
+            _ => NO_ROW,
         }
     }
 }

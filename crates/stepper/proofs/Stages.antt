@@ -9,7 +9,7 @@ use Rattle.places.specs.declared.place.Place.{Place}
 use Rattle.places.specs.declared.place.Place.TheVariants as place
 use Rattle.places.specs.declared.place.Hand.{Hand}
 use Rattle.places.specs.Moved.{Next, Next as next}
-use Rattle.places.specs.Marks.{pending}
+use Rattle.places.specs.Marks.{pending, mark_of}
 use Rattle.places.specs.Outs.{Out}
 use Rattle.places.specs.Rules.{absent}
 use Rattle.places.specs.Nexts.{number_of, settle_on, settled, next_of}
@@ -57,7 +57,7 @@ pub next_staged : (p : Place) (h : Hand) (g : Option ℕ) → StagedNext p g (ne
 next_staged place.Idle h g = refl
 next_staged (place.Head l) h g = let a : StagedOut (place.Head l) g (absent l 0) = out_staged _ g _ (absent_starts l 0) in search rules
 next_staged (place.Settle stage.First q) h g =
-    cond_both (eqb (number_of g) pending) (settle_on stage.Clock q) (settled q h (number_of g)) (StagedNext (place.Settle stage.First q) g)
+    cond_both (eqb (number_of g) pending) (settle_on stage.Clock q) (settled q h (mark_of (number_of g))) (StagedNext (place.Settle stage.First q) g)
     (λ e. (refl, eqb-true (number_of g) pending e)) (λ _. next_starts_staged _ g _ (settled_starts q h _))
 next_staged (place.Settle stage.Clock q) h g = (refl, refl)
 next_staged (place.Settle (stage.Swap n) q) h g = tt
@@ -67,7 +67,7 @@ next_staged (place.End c r) h g = out_staged _ g _ (end_done_starts _ c r)
 next_staged (place.LostHead i) h g = tt
 next_staged (place.Raise v) h g = next_starts_staged _ g _ (raise_done_starts v g)
 next_staged (place.WalkHead k) h g = next_starts_staged _ g _ (walked_head_starts k _)
-next_staged (place.WalkOlder k r) h g = next_starts_staged _ g _ (walked_ins_starts k r h (number_of g))
+next_staged (place.WalkOlder k r) h g = next_starts_staged _ g _ (walked_ins_starts k r h _)
 
 -- the worker's place after the turn
 module _ (p : Place) (g : Option ℕ) where

@@ -3,6 +3,7 @@ use Rattle.std.proofs.Common.{rules, ℕ, Bool, true, false, Some, None, Ok, Err
 use Rattle.std.specs.declared.ops.ControlFlow.TheVariants.{Continue, Break}
 use Rattle.layout.specs.declared.names.Field.{Field}
 use Rattle.layout.specs.declared.names.Field.TheVariants.{Ins, Del}
+use Rattle.places.specs.declared.mark.Mark.{Mark}
 use Rattle.places.specs.declared.place.Op.{Op}
 use Rattle.places.specs.declared.place.Op.TheVariants.{Add, Remove, Contains}
 use Rattle.places.specs.declared.place.Bound.{Bound}
@@ -23,7 +24,7 @@ use Rattle.places.specs.declared.place.Purpose.TheVariants as purpose
 use Rattle.places.specs.declared.place.Place.{Place}
 use Rattle.places.specs.declared.place.Place.TheVariants as place
 use Rattle.places.specs.Moved.{Next, Next as next}
-use Rattle.places.specs.Marks.{mark_of, is_ended, is_below}
+use Rattle.places.specs.Marks.{is_ended, is_below}
 use Rattle.places.specs.Outs.{Out}
 use Rattle.places.specs.Rules.{look_found, checked, bound_row, alive, absent, looked, unless_gone, owned, lost_to, lost_link, end_done}
 use Rattle.places.specs.Walks.{walked_head, walked_ins}
@@ -67,17 +68,17 @@ absent_starts (look.Vertex Add i) r = tt
 absent_starts (look.Edge o b) r = look_found_starts o b (Err r)
 absent_starts l r = tt
 
-looked_starts : (l : Look) (r : ℕ) (h : Hand) (n : ℕ) → StartsOut (looked l r h n)
-looked_starts l r h n = search (rules, alive_starts, absent_starts)
+looked_starts : (l : Look) (r : ℕ) (h : Hand) (m : Mark) → StartsOut (looked l r h m)
+looked_starts l r h m = search (rules, alive_starts, absent_starts)
 
 unless_starts : (gone : Bool) (o : Out) → StartsOut o → StartsOut (unless_gone gone o)
 unless_starts true o s = tt
 unless_starts false o s = s
 
-owned_starts : (f : Field) (c : Change) (r n : ℕ) → StartsOut (owned f c r n)
-owned_starts Ins (change.Vertex i) r n = tt
-owned_starts Del (change.Vertex i) r n = tt
-owned_starts f (change.Edge b) r n = tt
+owned_starts : (f : Field) (c : Change) (r : ℕ) (m : Mark) → StartsOut (owned f c r m)
+owned_starts Ins (change.Vertex i) r m = tt
+owned_starts Del (change.Vertex i) r m = tt
+owned_starts f (change.Edge b) r m = tt
 
 lost_to_starts : (c : Change) (r : ℕ) → StartsOut (lost_to c r)
 lost_to_starts (change.Vertex i) r = tt
@@ -103,20 +104,20 @@ raise_done_starts v (Some t) = tt
 pub walked_head_starts : (k : Walk) (r : ℕ) → StartsNext (walked_head k r)
 walked_head_starts k r = search rules
 
-pub walked_ins_starts : (k : Walk) (r : ℕ) (h : Hand) (n : ℕ) → StartsNext (walked_ins k r h n)
-walked_ins_starts k r h n = search rules
+pub walked_ins_starts : (k : Walk) (r : ℕ) (h : Hand) (m : Mark) → StartsNext (walked_ins k r h m)
+walked_ins_starts k r h m = search rules
 
-pub settled_starts : (p : Purpose) (h : Hand) (n : ℕ) → StartsNext (settled p h n)
-settled_starts (purpose.Look Del l r) h n = looked_starts l r h n
-settled_starts (purpose.Own f c r) h n = owned_starts f c r n
-settled_starts (purpose.LostDel c r) h n = lost_to_starts c r
-settled_starts (purpose.BindAgain o b) h n = unless_starts (is_ended (mark_of n)) _ tt
-settled_starts (purpose.Again Source o b f) h n = unless_starts (is_ended (mark_of n)) _ tt
-settled_starts (purpose.Again Target o b f) h n = unless_starts (is_ended (mark_of n)) _ (checked_starts o b f)
-settled_starts (purpose.Compare Source b f e x) h n = unless_starts (is_below x (mark_of n)) _ tt
-settled_starts (purpose.Compare Target b f e x) h n = unless_starts (is_below x (mark_of n)) _ tt
-settled_starts (purpose.Walk Ins k r) h n = walked_ins_starts k r h n
-settled_starts p h n = tt
+pub settled_starts : (p : Purpose) (h : Hand) (m : Mark) → StartsNext (settled p h m)
+settled_starts (purpose.Look Del l r) h m = looked_starts l r h m
+settled_starts (purpose.Own f c r) h m = owned_starts f c r m
+settled_starts (purpose.LostDel c r) h m = lost_to_starts c r
+settled_starts (purpose.BindAgain o b) h m = unless_starts (is_ended m) _ tt
+settled_starts (purpose.Again Source o b f) h m = unless_starts (is_ended m) _ tt
+settled_starts (purpose.Again Target o b f) h m = unless_starts (is_ended m) _ (checked_starts o b f)
+settled_starts (purpose.Compare Source b f e x) h m = unless_starts (is_below x m) _ tt
+settled_starts (purpose.Compare Target b f e x) h m = unless_starts (is_below x m) _ tt
+settled_starts (purpose.Walk Ins k r) h m = walked_ins_starts k r h m
+settled_starts p h m = tt
 
 go_on_starts : (v : Survey) (j : Option Job) → StartsOut (go_on v j)
 go_on_starts v None = tt

@@ -6,7 +6,7 @@ use Rattle.layout.specs.declared.names.Kind.{Kind}
 use Rattle.layout.specs.declared.names.Cell.{Cell}
 use Rattle.layout.specs.declared.names.Cell.TheVariants as cell
 use Rattle.layout.specs.Layout.{index_of}
-use Rattle.layout.specs.Rows.{row_at}
+use Rattle.layout.specs.Rows.{no_row, row_at}
 use Rattle.places.specs.declared.place.Hand.{Hand}
 use Rattle.places.specs.declared.place.Place.{Place}
 use Rattle.places.specs.declared.place.Touch.{Touch}
@@ -35,12 +35,12 @@ spare_for z w v None = None
 spare_for z w v (Some k) = next_row z w v k
 
 abbrev pub older_at : Sizes → List ℕ → Option (Kind × ℕ) → ℕ
-older_at z cs None = 0
+older_at z cs None = no_row
 older_at z cs (Some p) = cell_at z cs (cell.Older p.0 p.1)
 
--- a cell of an edge row; row 0 is none
+-- a cell of an edge row, where there is one
 abbrev pub edge_at : Sizes → List ℕ → Cell → ℕ → ℕ
-edge_at z cs c e = cond (e == 0) 0 (cell_at z cs c)
+edge_at z cs c e = cond (e == no_row) 0 (cell_at z cs c)
 
 -- what a worker has at hand without a turn, at a place
 abbrev pub hand_of : Sizes → List ℕ → ℕ → Worker → Place → Hand

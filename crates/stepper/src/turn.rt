@@ -14,6 +14,7 @@ use crate::seat::Seat;
 use cells::CellMemory;
 use codes::{Answer, Refusal};
 use layout::names::{Cell, Kind};
+use layout::rows::NO_ROW;
 use places::place::Hand;
 
 impl<M: CellMemory> Board<M> {
@@ -21,14 +22,14 @@ impl<M: CellMemory> Board<M> {
     fn older(&self, row: Option<(Kind, u32)>) -> u32
         ensures { result ≡ older_at self.now.sizes (M.cells self.now.memory) row }
     {
-        row.map_or(0, |(kind, row)| self.get(Cell::Older(kind, row)))
+        row.map_or(NO_ROW, |(kind, row)| self.get(Cell::Older(kind, row)))
     }
 
-    // A cell of an edge row, where one is wanted; row 0 is none.
+    // A cell of an edge row, where one is wanted.
     fn edge(&self, row: u32, cell: Cell) -> u32
         ensures { result ≡ edge_at self.now.sizes (M.cells self.now.memory) cell row }
     {
-        if row == 0 { 0 } else { self.get(cell) }
+        if row == NO_ROW { 0 } else { self.get(cell) }
     }
 }
 
