@@ -19,7 +19,7 @@ module _ (b : Book) (v : Survey) (n k i j x : ℕ) (queued : i ≡ slice_index b
   key_is : x % n ≡ j
   key_is = rw number (mod-mul-add k n j key)
 
-  pub open_taken : x < n * b.len → true ≡ open_pair b v i j → Some (job.Pair (record { number = x; from = i; to = j })) ≡ open_from b v n x
+  pub open_taken : x < n * b.len → true ≡ open_pair b v i j → Some (job.Pair (record { place = k; from = i; to = j })) ≡ open_from b v n x
   open_taken l o = rw (open_from_next b v n x l, place_is, key_is, ← queued, ← o) refl
 
   pub open_skipped : x < n * b.len → false ≡ open_pair b v i j → open_from b v n (x + 1) ≡ open_from b v n x

@@ -36,7 +36,11 @@ abbrev pub open_at : Book → Survey → ℕ → ℕ → Bool
 open_at b v n x = open_pair b v (pair_from b n x) (pair_to n x)
 
 abbrev pub leg_at : Book → ℕ → ℕ → Leg
-leg_at b n x = record { number = x; from = pair_from b n x; to = pair_to n x }
+leg_at b n x = record { place = x / n; from = pair_from b n x; to = pair_to n x }
+
+-- the number of a pair
+abbrev pub leg_number : ℕ → Leg → ℕ
+leg_number n l = l.place * n + l.to
 
 -- the first pair to walk among the d pairs from number x on
 abbrev pub first_open : Book → Survey → ℕ → ℕ → ℕ → Option Job

@@ -12,7 +12,7 @@ use Rattle.places.specs.declared.place.Job.TheVariants as job
 use Rattle.places.specs.declared.place.Walk.{Walk}
 use Rattle.places.specs.declared.place.Hand.{Hand}
 use Rattle.books.specs.Books.{shown_of, row_of, is_seen, with_row, joined}
-use Rattle.books.specs.Serving.{walk_or, serve_from}
+use Rattle.books.specs.Serving.{leg_number, walk_or, serve_from}
 use Rattle.books.specs.declared.book.Book.{Book}
 use Rattle.books.specs.declared.walked.Entry.{Entry}
 use Rattle.books.specs.declared.walked.Entry.TheVariants as entry
@@ -59,15 +59,15 @@ abbrev pub resolved : Book → Survey → ℕ → Leg → Hand → Outcome
 resolved b v n l h =
     cond (h.target == row_of b l.to)
     (cond (joins v (shown_of b l.to))
-    (record { book = joined b l.to; out = serve_from (joined b l.to) v n (l.number + 1); entry = entry.Join l.from l.to h.weight (row_of b l.to) })
-    (record { book = b; out = serve_from b v n (l.number + 1); entry = entry.Pair l.from l.to h.weight }))
-    (record { book = b; out = serve_from b v n (l.number + 1); entry = entry.Nothing })
+    (record { book = joined b l.to; out = serve_from (joined b l.to) v n (leg_number n l + 1); entry = entry.Join l.from l.to h.weight (row_of b l.to) })
+    (record { book = b; out = serve_from b v n (leg_number n l + 1); entry = entry.Pair l.from l.to h.weight }))
+    (record { book = b; out = serve_from b v n (leg_number n l + 1); entry = entry.Nothing })
 
 -- A pair: a visible row whose source is the served key's row leads to a walk of its target, once in the call.
 abbrev pub pair_walked : Book → Survey → ℕ → Leg → ℕ → Hand → Outcome
 pair_walked b v n l r h =
     cond (r == no_row || not (h.source == shown_of b l.from))
-    (record { book = b; out = serve_from b v n (l.number + 1); entry = entry.Nothing })
+    (record { book = b; out = serve_from b v n (leg_number n l + 1); entry = entry.Nothing })
     (cond (is_seen b l.to)
     (resolved b v n l h)
     (record { book = b; out = walk_of v (job.Target l r); entry = entry.Nothing }))

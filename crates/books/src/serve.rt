@@ -1,6 +1,6 @@
 // The next pair to walk.
-ghost use Rattle.std.specs.Prelude.{◌≡◌};
-ghost use Rattle.books.specs.Serving.{open_pair, open_from, serve_from, survey_done, walk_or};
+ghost use Rattle.std.specs.Prelude.{◌≡◌, ◌+◌, ◌*◌, ◌/◌, ◌%◌};
+ghost use Rattle.books.specs.Serving.{leg_number, open_pair, open_from, serve_from, survey_done, walk_or};
 
 use crate::book::Book;
 use codes::Answer;
@@ -19,6 +19,19 @@ pub fn survey_done(survey: Survey) -> Answer
     }
 }
 
+// The place and the key of a pair that may be named with a key past the last one.
+fn placed(sizes: Sizes, place: u8, to: u16) -> (usize, usize)
+    ensures { result ≡ (place + to / sizes.keys, to % sizes.keys) }
+{
+    let place = place as usize;
+    let to = to as usize;
+    if to < sizes.keys {
+        (place, to)
+    } else {
+        (place + to / sizes.keys, to % sizes.keys)
+    }
+}
+
 // The survey is the worker's and the sizes are the run's: a struct of both would be made anew for each call, so they come apart.
 impl Book {
     // Whether a pair is to be walked.
@@ -31,38 +44,51 @@ impl Book {
         }
     }
 
-    // The first pair to walk, from pair number `start` on.
-    fn seek(&self, survey: Survey, sizes: Sizes, start: usize) -> Option<Job>
-        ensures { result ≡ open_from self.now survey sizes.keys start }
+    // The first pair to walk, from the one of the key at a place and key `to` on.
+    fn seek(&self, survey: Survey, sizes: Sizes, place: u8, to: u16) -> Option<Job>
+        ensures { result ≡ open_from self.now survey sizes.keys (place * sizes.keys + to) }
     {
-        // The place in the queue and the key of pair number x go along with it: to divide at each pair would take longer.
-        let mut place = start / sizes.keys;
-        let mut to = (start % sizes.keys) as u8;
+        let start = place as usize * sizes.keys + to as usize;
+        // The place and the key of pair number x go along with it: to divide at each pair would take longer.
+        let (mut served, mut key) = placed(sizes, place, to);
         for x in start..sizes.keys * self.len as usize {
-            let from = self.queued(place);
-            if self.is_open(survey, from, to) {
+            let from = self.queued(served);
+            if self.is_open(survey, from, key as u8) {
                 return Some(Job::Pair(Leg {
-                    number: x as u16,
+                    place: served as u8,
                     from,
-                    to,
+                    to: key as u8,
                 }));
             }
-            to += 1;
-            if to as usize == sizes.keys {
-                place += 1;
-                to = 0;
+            key += 1;
+            if key == sizes.keys {
+                served += 1;
+                key = 0;
             }
         }
         None
     }
 
-    // On to the next pair to walk, or the answer.
-    pub fn serve(&self, survey: Survey, sizes: Sizes, start: usize) -> ControlFlow<Answer, Job>
-        ensures { walk_or survey result ≡ serve_from self.now survey sizes.keys start }
+    // On to the next pair to walk, from the one of the key at a place and key `to` on, or the answer.
+    pub fn serve(
+        &self,
+        survey: Survey,
+        sizes: Sizes,
+        place: u8,
+        to: u16,
+    ) -> ControlFlow<Answer, Job>
+        ensures { walk_or survey result ≡ serve_from self.now survey sizes.keys (place * sizes.keys + to) }
     {
-        match self.seek(survey, sizes, start) {
+        match self.seek(survey, sizes, place, to) {
             Some(job) => ControlFlow::Continue(job),
             None => ControlFlow::Break(survey_done(survey)),
         }
+    }
+
+    // On to the next pair after one, or the answer.
+    pub fn serve_after(&self, survey: Survey, sizes: Sizes, leg: Leg) -> ControlFlow<Answer, Job>
+        ensures { walk_or survey result ≡ serve_from self.now survey sizes.keys (leg_number sizes.keys leg + 1) }
+    {
+        self.serve(survey, sizes, leg.place, leg.to as u16 + 1)
     }
 }

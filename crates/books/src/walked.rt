@@ -41,7 +41,7 @@ impl Book {
             };
         }
         Served {
-            flow: self.serve(survey, sizes, 0),
+            flow: self.serve(survey, sizes, 0, 0),
             entry,
         }
     }
@@ -59,7 +59,7 @@ impl Book {
         self.walk(key, row);
         self.join(key);
         Served {
-            flow: self.serve(survey, sizes, 0),
+            flow: self.serve(survey, sizes, 0, 0),
             entry: Entry::Key(key, row),
         }
     }
@@ -78,7 +78,7 @@ impl Book {
             _ => Entry::Pair(leg.from, leg.to, hand.weight),
         };
         Served {
-            flow: self.serve(survey, sizes, leg.number as usize + 1),
+            flow: self.serve_after(survey, sizes, leg),
             entry,
         }
     }
@@ -96,7 +96,7 @@ impl Book {
     {
         if row == NO_ROW || hand.source != self.key(leg.from) {
             return Served {
-                flow: self.serve(survey, sizes, leg.number as usize + 1),
+                flow: self.serve_after(survey, sizes, leg),
                 entry: Entry::Nothing,
             };
         }

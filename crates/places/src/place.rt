@@ -80,10 +80,10 @@ pub enum Change {
 // What the look at an edge found: the row of the edge, or the head that it read and that is not the edge.
 pub type Found = Result<u32, u32>;
 
-// A pair that a walk is about: pair number x is the pair of the (x / N)-th key served and the key x % N.
+// A pair that a walk is about: the key at a place of the keys to serve, and another one.
 #[derive(Clone, Copy, PartialEq, Eq, Debug)]
 pub struct Leg {
-    pub number: u16,
+    pub place: u8,
     pub from: u8,
     pub to: u8,
 }
