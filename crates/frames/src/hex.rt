@@ -35,12 +35,15 @@ pub fn byte(high: u8, low: u8) -> Option<u8>
     Some(16 * digit(high)? + digit(low)?)
 }
 
+// The digits, each at its value.
+const CAPITALS: [u8; 16] = *b"0123456789ABCDEF";
+
 // The capital of a digit's value.
 fn capital_of(d: u8) -> u8
     requires { d < 16 }
     ensures { result ≡ capital d }
 {
-    if d < 10 { b'0' + d } else { b'A' + (d - 10) }
+    CAPITALS[usize::from(d)]
 }
 
 // The two digits of a byte, in capitals.

@@ -24,7 +24,7 @@ drop_further xs ys k m h e =
 replies_to : (e f : Session) (rest line : List ℕ) (r : Reply) → line ≡ line_of rest → Replies e (frame_in (bytes_of line)) r f → LineReplies e rest r f
 replies_to e f rest line r q a = rw q at a
 
-pub through_more : (d e f : Session) (text old rest mid new line behind : List ℕ) (k m : ℕ) (r : Reply) → Through d text old e rest mid k → 0 < length rest → line ≡ line_of rest → behind ≡ behind_line rest → Replies e (frame_in (bytes_of line)) r f → Put k r mid new m → Through d text old f behind new m
+pub through_more : (d e f : Session) (text old rest mid new line behind : List ℕ) (k m : ℕ) (r : Reply) → Through d text old e rest mid k → 0 < length rest → line ≡ line_of rest → behind ≡ behind_line rest → Replies e (frame_in (bytes_of line)) r f → Put k (fed_line r) mid new m → Through d text old f behind new m
 through_more d e f text old rest mid new line behind k m r i h q b a p = record {
   within = p.within;
   replayed = rw (b, p.front) (one_more rest (take k mid) e f r i.replayed h (replies_to e f rest line r q a));
