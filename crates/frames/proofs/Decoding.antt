@@ -1,87 +1,85 @@
--- Reading the bytes of a line, two characters for each.
-use Rattle.std.proofs.Common.{◌≡◌, ℕ, ◌+◌, ◌*◌, ◌/◌, ◌%◌, ◌<◌, ◌≤◌, List, [], ◌∷◌, ◌++◌, length, get_or, take, drop, Some, None, Option, zero, suc, add-one, sym, refl, ap, ◌∙◌, arith}
-use Rattle.std.specs.Simd.{first_chunks}
-use Rattle.std.proofs.lemmas.List.{take_all, append-nil, at_drop_more, at_drop_all}
+-- Reading the bytes of a line, two digits for each.
+use Rattle.std.proofs.Common.{◌≡◌, ◌≢◌, ℕ, ◌+◌, ◌*◌, ◌<◌, ◌≤◌, List, [], ◌∷◌, ◌++◌, length, get_or, take, drop, set, Some, None, Option, suc, refl, sym, ap, ◌∙◌, arith}
+use Rattle.std.proofs.lemmas.List.{take_all, take_more_set, append-nil, append_assoc, at_drop_more, at_drop_all}
 use Rattle.std.proofs.lemmas.Bool.Decides.{nat_tests}
 use Rattle.frames.specs.Hex.{digit_of, byte_of, joined, bytes_of}
 use Rattle.frames.specs.Frames.{frame_of, frame_in}
 
--- the byte of a pair of characters
-abbrev pub byte_in : List ℕ → Option ℕ
-byte_in pair = byte_of (digit_of (get_or pair 0 0)) (digit_of (get_or pair 1 0))
-
-abbrev pub bytes_in : List (List ℕ) → Option (List ℕ)
-bytes_in [] = Some []
-bytes_in (pair ∷ pairs) = joined (byte_in pair) (bytes_in pairs)
-
--- a line of pairs
-pub bytes_of-pairs : (k : ℕ) (line : List ℕ) → length line ≡ k * 2 → bytes_of line ≡ bytes_in (first_chunks 2 k line)
-bytes_of-pairs zero [] h = refl
-bytes_of-pairs zero (x ∷ r) h = absurd (omega arith)
-bytes_of-pairs (suc k) [] h = absurd (omega arith)
-bytes_of-pairs (suc k) (x ∷ []) h = absurd (omega arith)
-bytes_of-pairs (suc k) (x ∷ (y ∷ r)) h =
-    ap (joined (byte_of (digit_of x) (digit_of y))) (bytes_of-pairs k r (omega arith))
-
--- what stands behind the pairs is nothing
-pub bytes_of-even : (line back : List ℕ) (pairs : List (List ℕ)) → pairs ≡ first_chunks 2 (length line / 2) line → length back ≡ length line % 2 → length back < 1 → bytes_of line ≡ bytes_in pairs
-bytes_of-even line back pairs e b h = bytes_of-pairs (length line / 2) line (omega arith) ∙ ap bytes_in (sym e)
-
-joined_none : (b : Option ℕ) → joined b None ≡ None
-joined_none None = refl
-joined_none (Some b) = refl
-
--- a character that stands alone
-pub odd_none : (line : List ℕ) → length line % 2 ≡ 1 → bytes_of line ≡ None
-odd_none [] h = absurd (omega arith)
-odd_none (x ∷ []) h = refl
-odd_none (x ∷ (y ∷ r)) h =
-    ap (joined (byte_of (digit_of x) (digit_of y))) (odd_none r (omega arith)) ∙ joined_none (byte_of (digit_of x) (digit_of y))
-
--- no frame is longer than eleven bytes
-long_none : (bs : List ℕ) → 12 ≤ length bs → frame_of bs ≡ None
-long_none bs h = grind (arith, nat_tests)
-
--- n bytes, where there are bytes
-abbrev Sized : Option (List ℕ) → ℕ → Type 0
-Sized None n = Unit {0}
-Sized (Some bs) n = length bs ≡ n
-
-sized_joined : (b : Option ℕ) (x : Option (List ℕ)) (n : ℕ) → Sized x n → Sized (joined b x) (n + 1)
-sized_joined None None n h = tt
-sized_joined None (Some bs) n h = tt
-sized_joined (Some b) None n h = tt
-sized_joined (Some b) (Some bs) n h = omega arith
-
-sized : (pairs : List (List ℕ)) → Sized (bytes_in pairs) (length pairs)
-sized [] = refl
-sized (pair ∷ pairs) = rw add-one at (sized_joined (byte_in pair) (bytes_in pairs) (length pairs) (sized pairs))
-
-none_sized : (x : Option (List ℕ)) (n : ℕ) → Sized x n → 12 ≤ n → frame_in x ≡ None
-none_sized None n h l = refl
-none_sized (Some bs) n h l = long_none bs (omega arith)
-
-pub more_than_eleven_none : (pairs : List (List ℕ)) → 12 ≤ length pairs → frame_in (bytes_in pairs) ≡ None
-more_than_eleven_none pairs h = none_sized (bytes_in pairs) (length pairs) (sized pairs) h
+-- the n-th byte of a line, by its digits
+abbrev byte_at : List ℕ → ℕ → Option ℕ
+byte_at line n = byte_of (digit_of (get_or line (2 * n) 0)) (digit_of (get_or line (2 * n + 1) 0))
 
 -- bytes in front of those of the rest
-abbrev pub prefixed : List ℕ → Option (List ℕ) → Option (List ℕ)
+abbrev prefixed : List ℕ → Option (List ℕ) → Option (List ℕ)
 prefixed bs None = None
 prefixed bs (Some more) = Some (bs ++ more)
 
--- the first n of `out` are the bytes of the first n pairs
-abbrev pub Read : List (List ℕ) → List ℕ → ℕ → Type 0
-Read pairs out n = bytes_in pairs ≡ prefixed (take n out) (bytes_in (drop n pairs))
+-- the first n of `out` are the first n bytes of a line
+abbrev pub Read : List ℕ → List ℕ → ℕ → Type 0
+Read line out n = bytes_of line ≡ prefixed (take n out) (bytes_of (drop (2 * n) line))
+
+pub nothing_read : (line out : List ℕ) → Read line out 0
+nothing_read line out = unprefixed (bytes_of line)
+  where
+    unprefixed : (x : Option (List ℕ)) → x ≡ prefixed [] x
+    unprefixed None = refl
+    unprefixed (Some bs) = refl
+
+byte_more : (line : List ℕ) (n : ℕ) → 2 * n + 1 < length line → bytes_of (drop (2 * n) line) ≡ joined (byte_at line n) (bytes_of (drop (2 * (n + 1)) line))
+byte_more line n h =
+    let e : 2 * n + 1 + 1 ≡ 2 * (n + 1) = omega arith in
+    at_drop_more bytes_of line (2 * n) 0 (omega arith)
+    ∙ at_drop_more (λ rest. bytes_of (get_or line (2 * n) 0 ∷ rest)) line (2 * n + 1) 0 h
+    ∙ ap (λ i. joined (byte_at line n) (bytes_of (drop i line))) e
+
+-- what a line is, by its n-th byte
+by_byte : (line out : List ℕ) (n : ℕ) (b : Option ℕ) → Read line out n → 2 * n + 1 < length line → b ≡ byte_at line n → bytes_of line ≡ prefixed (take n out) (joined b (bytes_of (drop (2 * (n + 1)) line)))
+by_byte line out n b i h e =
+    i ∙ ap (prefixed (take n out)) (byte_more line n h ∙ ap (λ z. joined z (bytes_of (drop (2 * (n + 1)) line))) (sym e))
 
 no_byte : (bs : List ℕ) (x : Option (List ℕ)) → prefixed bs (joined None x) ≡ None
 no_byte bs None = refl
 no_byte bs (Some cs) = refl
 
-pub no_digit_none : (pairs : List (List ℕ)) (out : List ℕ) (n : ℕ) → Read pairs out n → n < length pairs → None ≡ byte_in (get_or pairs n []) → bytes_in pairs ≡ None
-no_digit_none pairs out n i h e =
-    i ∙ ap (prefixed (take n out)) (at_drop_more bytes_in pairs n [] h ∙ ap (λ z. joined z (bytes_in (drop (n + 1) pairs))) (sym e))
-    ∙ no_byte (take n out) (bytes_in (drop (n + 1) pairs))
+one_byte : (bs : List ℕ) (b : ℕ) (x : Option (List ℕ)) → prefixed bs (joined (Some b) x) ≡ prefixed (bs ++ (b ∷ [])) x
+one_byte bs b None = refl
+one_byte bs b (Some cs) = ap Some (sym (append_assoc bs (b ∷ []) cs))
 
-pub all_read : (pairs : List (List ℕ)) (out : List ℕ) (n : ℕ) → Read pairs out n → length pairs ≤ n → length out ≤ n → bytes_in pairs ≡ Some out
-all_read pairs out n i h l =
-    i ∙ ap (prefixed (take n out)) (at_drop_all bytes_in pairs n h) ∙ ap Some (append-nil (take n out) ∙ take_all n out l)
+pub no_digit_none : (line out : List ℕ) (n : ℕ) → Read line out n → 2 * n + 1 < length line → None ≡ byte_at line n → bytes_of line ≡ None
+no_digit_none line out n i h e = by_byte line out n None i h e ∙ no_byte (take n out) (bytes_of (drop (2 * (n + 1)) line))
+
+pub one_more_read : (line out : List ℕ) (n b : ℕ) → Read line out n → 2 * n + 1 < length line → n < length out → Some b ≡ byte_at line n → Read line (set out n b) (n + 1)
+one_more_read line out n b i h l e =
+    let rest : Option (List ℕ) = bytes_of (drop (2 * (n + 1)) line) in
+    by_byte line out n (Some b) i h e ∙ one_byte (take n out) b rest ∙ ap (λ bs. prefixed bs rest) (sym (take_more_set out n b l))
+
+pub all_read : (line out : List ℕ) (n : ℕ) → Read line out n → length line ≤ 2 * n → length out ≤ n → bytes_of line ≡ Some out
+all_read line out n i h l =
+    i ∙ ap (prefixed (take n out)) (at_drop_all bytes_of line (2 * n) h) ∙ ap Some (append-nil (take n out) ∙ take_all n out l)
+
+-- half as many bytes as characters, where there are bytes
+abbrev Halved : Option (List ℕ) → ℕ → Type 0
+Halved None n = Unit {0}
+Halved (Some bs) n = 2 * length bs ≡ n
+
+halved_joined : (b : Option ℕ) (x : Option (List ℕ)) (n : ℕ) → Halved x n → Halved (joined b x) (suc (suc n))
+halved_joined None None n h = tt
+halved_joined None (Some bs) n h = tt
+halved_joined (Some b) None n h = tt
+halved_joined (Some b) (Some bs) n h = omega arith
+
+halved : (line : List ℕ) → Halved (bytes_of line) (length line)
+halved [] = refl
+halved (x ∷ []) = tt
+halved (x ∷ (y ∷ rest)) = halved_joined (byte_of (digit_of x) (digit_of y)) (bytes_of rest) (length rest) (halved rest)
+
+-- the lengths of frames
+frame_lengths : (bs : List ℕ) → length bs ≢ 2 → length bs ≢ 3 → length bs ≢ 9 → length bs ≢ 11 → frame_of bs ≡ None
+frame_lengths bs h2 h3 h9 h11 = grind (arith, nat_tests)
+
+none_halved : (x : Option (List ℕ)) (n : ℕ) → Halved x n → n ≢ 4 → n ≢ 6 → n ≢ 18 → n ≢ 22 → frame_in x ≡ None
+none_halved None n h h4 h6 h18 h22 = refl
+none_halved (Some bs) n h h4 h6 h18 h22 = frame_lengths bs (omega arith) (omega arith) (omega arith) (omega arith)
+
+pub other_lengths_none : (line : List ℕ) → length line ≢ 4 → length line ≢ 6 → length line ≢ 18 → length line ≢ 22 → frame_in (bytes_of line) ≡ None
+other_lengths_none line h4 h6 h18 h22 = none_halved (bytes_of line) (length line) (halved line) h4 h6 h18 h22

@@ -1,2 +1,3 @@
 mod Appending
 mod Decoding
+mod Digits

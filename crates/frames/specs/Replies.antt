@@ -4,6 +4,8 @@ use Rattle.codes.specs.Codes.{answer_code, refusal_code}
 use Rattle.codes.specs.declared.answer.Answer.{Answer}
 use Rattle.codes.specs.declared.refusal.Refusal.{Refusal}
 use Rattle.codes.specs.declared.refusal.Refusal.TheVariants as refusal
+use Rattle.frames.specs.declared.line.Line.{Line}
+use Rattle.frames.specs.declared.line.Line.TheVariants.{Two, Three}
 use Rattle.frames.specs.declared.reply.Reply.{Reply}
 use Rattle.frames.specs.declared.reply.Reply.TheVariants.{ToOpen, ToBegin, ToTurns, ToTake, NoFrame}
 use Rattle.frames.specs.Hex.{hex_of}
@@ -23,6 +25,11 @@ reply_bytes NoFrame = 0xFF ∷ (refusal_code refusal.NoFrame ∷ [])
 
 abbrev pub reply_line : Reply → List ℕ
 reply_line reply = hex_of (reply_bytes reply)
+
+-- the digits that a line holds
+abbrev pub line_digits : Line → List ℕ
+line_digits (Two digits) = digits
+line_digits (Three digits) = digits
 
 -- whether a key is present
 abbrev pub key_byte : Bool → ℕ

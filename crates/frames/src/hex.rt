@@ -2,16 +2,30 @@
 ghost use Rattle.std.specs.Prelude.{◌≡◌, ◌<◌, [], ◌∷◌};
 ghost use Rattle.frames.specs.Hex.{digit_of, byte_of, capital, hex_of};
 
-// The value of a digit, of either case. The library's `to_digit` takes a char and gives 32 bits, to be cut again.
+// The value of each character as a digit, of either case; 255 where it is none.
+const VALUES: [u8; 256] = [
+    255, 255, 255, 255, 255, 255, 255, 255, 255, 255, 255, 255, 255, 255, 255, 255, 255, 255, 255,
+    255, 255, 255, 255, 255, 255, 255, 255, 255, 255, 255, 255, 255, 255, 255, 255, 255, 255, 255,
+    255, 255, 255, 255, 255, 255, 255, 255, 255, 255, 0, 1, 2, 3, 4, 5, 6, 7, 8, 9, 255, 255, 255,
+    255, 255, 255, 255, 10, 11, 12, 13, 14, 15, 255, 255, 255, 255, 255, 255, 255, 255, 255, 255,
+    255, 255, 255, 255, 255, 255, 255, 255, 255, 255, 255, 255, 255, 255, 255, 255, 10, 11, 12, 13,
+    14, 15, 255, 255, 255, 255, 255, 255, 255, 255, 255, 255, 255, 255, 255, 255, 255, 255, 255,
+    255, 255, 255, 255, 255, 255, 255, 255, 255, 255, 255, 255, 255, 255, 255, 255, 255, 255, 255,
+    255, 255, 255, 255, 255, 255, 255, 255, 255, 255, 255, 255, 255, 255, 255, 255, 255, 255, 255,
+    255, 255, 255, 255, 255, 255, 255, 255, 255, 255, 255, 255, 255, 255, 255, 255, 255, 255, 255,
+    255, 255, 255, 255, 255, 255, 255, 255, 255, 255, 255, 255, 255, 255, 255, 255, 255, 255, 255,
+    255, 255, 255, 255, 255, 255, 255, 255, 255, 255, 255, 255, 255, 255, 255, 255, 255, 255, 255,
+    255, 255, 255, 255, 255, 255, 255, 255, 255, 255, 255, 255, 255, 255, 255, 255, 255, 255, 255,
+    255, 255, 255, 255, 255, 255, 255, 255, 255, 255, 255, 255, 255, 255, 255, 255, 255, 255, 255,
+    255, 255, 255,
+];
+
+// The value of a digit. By a table, since a branch on each digit costs time.
 fn digit(c: u8) -> Option<u8>
     ensures { result ≡ digit_of c }
 {
-    match c {
-        b'0'..=b'9' => Some(c - b'0'),
-        b'A'..=b'F' => Some(c - b'A' + 10),
-        b'a'..=b'f' => Some(c - b'a' + 10),
-        _ => None,
-    }
+    let value = VALUES[usize::from(c)];
+    if value < 16 { Some(value) } else { None }
 }
 
 // The byte of two digits: two values, so no `From`.
@@ -21,12 +35,15 @@ pub fn byte(high: u8, low: u8) -> Option<u8>
     Some(16 * digit(high)? + digit(low)?)
 }
 
+// The digits, each at its value.
+const CAPITALS: [u8; 16] = *b"0123456789ABCDEF";
+
 // The capital of a digit's value.
 fn capital_of(d: u8) -> u8
     requires { d < 16 }
     ensures { result ≡ capital d }
 {
-    if d < 10 { b'0' + d } else { b'A' + (d - 10) }
+    CAPITALS[usize::from(d)]
 }
 
 // The two digits of a byte, in capitals.

@@ -1,5 +1,5 @@
 // Reading a line as a frame.
-ghost use Rattle.std.specs.Prelude.{◌≡◌, None, Some, MatchOption};
+ghost use Rattle.std.specs.Prelude.{◌≡◌, ◌*◌, length};
 ghost use Rattle.frames.specs.Hex.{bytes_of};
 ghost use Rattle.frames.specs.Frames.{frame_of, frame_in};
 
@@ -8,20 +8,14 @@ use crate::hex::byte;
 use layout::opening::Opening;
 use places::call::Begin;
 
-// The bytes of the longest frame, in fixed memory: a replay has no heap.
-const LONGEST: usize = 11;
-
-// The bytes of a line, put into `out`; none where they are no frame.
-fn decode<'a>(line: &[u8], out: &'a mut [u8; LONGEST]) -> Option<&'a [u8]>
-    ensures { MatchOption result (frame_in (bytes_of line.now) ≡ None) (λ bytes. bytes_of line.now ≡ Some bytes.now) }
+// The bytes of a line of N digit pairs. An N for each length of a frame, so that the steps are known where it is compiled.
+fn decode<const N: usize>(line: &[u8]) -> Option<[u8; N]>
+    requires { length line.now ≡ 2 * N }
+    ensures { result ≡ bytes_of line.now }
 {
-    let (pairs, []) = line.as_chunks::<2>() else {
-        return None;
-    };
-    let bytes = out.get_mut(..pairs.len())?;
-    // By index: a proof knows nothing of what is written through a zip.
-    for (i, [high, low]) in pairs.iter().enumerate() {
-        bytes[i] = byte(*high, *low)?;
+    let mut bytes = [0; N];
+    for i in 0..N {
+        bytes[i] = byte(line[2 * i], line[2 * i + 1])?;
     }
     Some(bytes)
 }
@@ -54,10 +48,23 @@ fn frame_of(bytes: &[u8]) -> Option<Frame>
     }
 }
 
+// The frame of N bytes that a line is, or none.
+fn frame_with<const N: usize>(line: &[u8]) -> Option<Frame>
+    requires { length line.now ≡ 2 * N }
+    ensures { result ≡ frame_in (bytes_of line.now) }
+{
+    frame_of(&decode::<N>(line)?)
+}
+
 // The frame that a line is, or none.
 pub fn parse(line: &[u8]) -> Option<Frame>
     ensures { result ≡ frame_in (bytes_of line.now) }
 {
-    let mut bytes = [0; LONGEST];
-    frame_of(decode(line, &mut bytes)?)
+    match line.len() {
+        4 => frame_with::<2>(line),
+        6 => frame_with::<3>(line),
+        18 => frame_with::<9>(line),
+        22 => frame_with::<11>(line),
+        _ => None,
+    }
 }

@@ -1,5 +1,5 @@
 -- A text replied to line by line, into an area.
-use Rattle.std.specs.Prelude.{◌≡◌, ℕ, ◌+◌, ◌<◌, ◌≤◌, ◌⊎◌, List, [], ◌∷◌, ◌++◌, length, take, drop}
+use Rattle.std.specs.Prelude.{◌≡◌, ℕ, ◌+◌, ◌<◌, ◌≤◌, ◌⊎◌, List, [], ◌∷◌, ◌++◌, length, take, drop, Some, None, Option}
 use Rattle.frames.specs.Frames.{frame_in}
 use Rattle.frames.specs.Hex.{bytes_of}
 use Rattle.frames.specs.Replies.{reply_line}
@@ -8,16 +8,25 @@ use Rattle.session.specs.Answers.{Replies}
 use Rattle.session.specs.Desks.{Session}
 use Rattle.replay.specs.Texts.{line_of, behind_line}
 
+-- a line with its line feed
+abbrev pub fed : List ℕ → List ℕ
+fed line = line ++ (10 ∷ [])
+
 -- the line of a reply, with its line feed
 abbrev pub fed_line : Reply → List ℕ
-fed_line r = reply_line r ++ (10 ∷ [])
+fed_line r = fed (reply_line r)
 
--- a reply line written from a place on, to its end at n; what stands in front and behind stays
-pub record Put (at : ℕ) (r : Reply) (old new : List ℕ) (n : ℕ) : Type 0 where
+-- a text written from a place on, to its end at n; what stands in front and behind stays
+pub record Put (at : ℕ) (text old new : List ℕ) (n : ℕ) : Type 0 where
   pub grows : at ≤ n
   pub within : n ≤ length new
-  pub front : take n new ≡ take at old ++ fed_line r
+  pub front : take n new ≡ take at old ++ text
   pub behind : drop n new ≡ drop n old
+
+-- a text written from a place on, to its end; where it does not fit whole, nothing
+abbrev pub PutWhole : ℕ → List ℕ → List ℕ → List ℕ → Option ℕ → Type 0
+PutWhole at text old new None = (new ≡ old) × (length old < at + length text)
+PutWhole at text old new (Some n) = Put at text old new n
 
 -- the reply to the first line of a text, and the session after it
 abbrev pub LineReplies : Session → List ℕ → Reply → Session → Type 0

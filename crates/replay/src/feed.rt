@@ -1,8 +1,11 @@
-// The first line of a text, and what stands behind it.
+// The frame of a text's first line, and what stands behind the line.
 ghost use Rattle.std.specs.Prelude.{◌≡◌, ◌==◌};
 ghost use Rattle.std.specs.List.{position};
+ghost use Rattle.frames.specs.Frames.{frame_in};
+ghost use Rattle.frames.specs.Hex.{bytes_of};
 ghost use Rattle.replay.specs.Texts.{line_of, behind_line};
 
+use frames::{Frame, parse};
 use session::lines::LINE_FEED;
 
 // Where the first line feed stands.
@@ -13,7 +16,7 @@ fn feed(text: &[u8]) -> Option<usize>
 }
 
 // The first line without its line feed, and what stands behind it.
-pub fn split(text: &[u8]) -> (&[u8], &[u8])
+fn split(text: &[u8]) -> (&[u8], &[u8])
     ensures line { result.0.now ≡ line_of text.now }
     ensures rest { result.1.now ≡ behind_line text.now }
 {
@@ -21,4 +24,26 @@ pub fn split(text: &[u8]) -> (&[u8], &[u8])
         Some(n) => (&text[..n], &text[n + 1..]),
         None => (text, &[]),
     }
+}
+
+// The frame that the first line is, or none, and what stands behind the line.
+pub fn first(text: &[u8]) -> (Option<Frame>, &[u8])
+    ensures frame { result.0 ≡ frame_in (bytes_of (line_of text.now)) }
+    ensures rest { result.1.now ≡ behind_line text.now }
+{
+    // The kind of a frame tells how many digits it has. Where a frame of so many stands, no line feed has to be sought.
+    let n = match text {
+        [_, b'1', ..] => 22,
+        [_, b'2', ..] => 18,
+        [_, b'3', ..] => 6,
+        _ => 4,
+    };
+    if n < text.len() && text[n] == LINE_FEED {
+        let frame = parse(&text[..n]);
+        if frame.is_some() {
+            return (frame, &text[n + 1..]);
+        }
+    }
+    let (line, rest) = split(text);
+    (parse(line), rest)
 }

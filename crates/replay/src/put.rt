@@ -1,23 +1,33 @@
 // Writing a reply line into an area.
-ghost use Rattle.std.specs.Prelude.{◌≡◌, ◌+◌, ◌<◌, ◌≤◌, ◌++◌, length, MatchOption};
-ghost use Rattle.replay.specs.Replayed.{fed_line, Put};
+ghost use Rattle.std.specs.Prelude.{◌≤◌, length};
+ghost use Rattle.replay.specs.Replayed.{fed, fed_line, PutWhole};
 
-use frames::Reply;
+use frames::{Line, Reply};
 use session::lines::LINE_FEED;
 
-// Writes the line of a reply, and a line feed, from `at` on, and says where it ends; where that does not fit whole, nothing.
-pub fn put(out: &mut [u8], at: usize, reply: Reply) -> Option<usize>
+// Writes digits, and a line feed, from `at` on, and says where they end; where that does not fit whole, nothing.
+#[inline(always)]
+fn put_digits(out: &mut [u8], at: usize, digits: &[u8]) -> Option<usize>
     requires { at ≤ length out.old }
-    ensures { MatchOption result ((out.new ≡ out.old) × (length out.old < at + length (fed_line reply))) (λ n. Put at reply out.old out.new n) }
+    ensures { PutWhole at (fed digits.now) out.old out.new result }
 {
-    let line = reply.line();
-    let line = line.as_slice();
     // After a write through `get_mut` a proof knows no element of the area, so the room is tested.
-    if out.len() - at <= line.len() {
+    if out.len() - at <= digits.len() {
         return None;
     }
-    let end = at + line.len();
-    out[at..end].copy_from_slice(line);
+    let end = at + digits.len();
+    out[at..end].copy_from_slice(digits);
     out[end] = LINE_FEED;
     Some(end + 1)
+}
+
+// Writes the line of a reply in the same way. A call for each length, so that it is known where the call is compiled.
+pub fn put(out: &mut [u8], at: usize, reply: Reply) -> Option<usize>
+    requires { at ≤ length out.old }
+    ensures { PutWhole at (fed_line reply) out.old out.new result }
+{
+    match reply.line() {
+        Line::Two(digits) => put_digits(out, at, &digits),
+        Line::Three(digits) => put_digits(out, at, &digits),
+    }
 }

@@ -2,10 +2,10 @@
 ghost use Rattle.session.specs.Desks.{Session.Shut as Waiting};
 ghost use Rattle.replay.specs.Replayed.{Written};
 
-use crate::feed::split;
+use crate::feed::first;
 use crate::put::put;
 use cells::CellMemory;
-use session::answer::{answer, answer_open};
+use session::answer::{answer_frame, answer_open};
 use session::desk::Desk;
 
 // Writes a reply line for each line of the text, and says how many bytes were written. A reply that does not fit whole is
@@ -18,12 +18,12 @@ pub fn replay<M: CellMemory + Drop>(memory: M, text: &[u8], out: &mut [u8]) -> u
     let mut n = 0;
     // A loop over `split_inclusive` in a generic function gets no proof.
     while !rest.is_empty() {
-        let (line, behind) = split(rest);
+        let (frame, behind) = first(rest);
         // A run answers where it is, since moving it for each line costs time.
         let reply = if let Desk::Open(run) = &mut desk {
-            answer_open(run, line)
+            answer_open(run, frame)
         } else {
-            let answered = answer(desk, line);
+            let answered = answer_frame(desk, frame);
             desk = answered.desk;
             answered.reply
         };

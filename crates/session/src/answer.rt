@@ -68,11 +68,11 @@ fn open<M: CellMemory>(memory: M, opening: Opening) -> Answered<M>
     }
 }
 
-// The reply to a line while a run is open. One arm for each sort of frame, as in `Replies`, so a match.
-pub fn answer_open<M: CellMemory>(run: &mut Run<M>, line: &[u8]) -> Reply
-    ensures { Replies (Serving (state_of M.cells run.old)) (frame_in (bytes_of line.now)) result (Serving (state_of M.cells run.new)) }
+// The reply to a frame, or to none, while a run is open. One arm for each sort of frame, as in `Replies`, so a match.
+pub fn answer_open<M: CellMemory>(run: &mut Run<M>, frame: Option<Frame>) -> Reply
+    ensures { Replies (Serving (state_of M.cells run.old)) frame result (Serving (state_of M.cells run.new)) }
 {
-    match frames::parse(line) {
+    match frame {
         Some(Frame::Turns { worker, count }) => turns(run, worker, count),
         Some(Frame::Begin(frame)) => Reply::ToBegin(begin(run, frame)),
         Some(Frame::Open(opening)) => Reply::ToOpen(reopen(run, opening)),
@@ -80,11 +80,11 @@ pub fn answer_open<M: CellMemory>(run: &mut Run<M>, line: &[u8]) -> Reply
     }
 }
 
-// The reply to a line while nothing is open: only an opening is a frame.
-pub fn answer_closed<M: CellMemory>(memory: M, line: &[u8]) -> Answered<M>
-    ensures { Replies (Waiting (M.cells memory)) (frame_in (bytes_of line.now)) result.reply (session_of M.cells result.desk) }
+// The reply while nothing is open: only an opening is a frame.
+fn answer_closed<M: CellMemory>(memory: M, frame: Option<Frame>) -> Answered<M>
+    ensures { Replies (Waiting (M.cells memory)) frame result.reply (session_of M.cells result.desk) }
 {
-    match frames::parse(line) {
+    match frame {
         Some(Frame::Open(opening)) => open(memory, opening),
         _ => Answered {
             desk: Desk::Closed(memory),
@@ -93,18 +93,25 @@ pub fn answer_closed<M: CellMemory>(memory: M, line: &[u8]) -> Answered<M>
     }
 }
 
-// The reply to a line.
-pub fn answer<M: CellMemory>(desk: Desk<M>, line: &[u8]) -> Answered<M>
-    ensures { Replies (session_of M.cells desk) (frame_in (bytes_of line.now)) result.reply (session_of M.cells result.desk) }
+// The reply to a frame, or to a line that is none.
+pub fn answer_frame<M: CellMemory>(desk: Desk<M>, frame: Option<Frame>) -> Answered<M>
+    ensures { Replies (session_of M.cells desk) frame result.reply (session_of M.cells result.desk) }
 {
     match desk {
-        Desk::Closed(memory) => answer_closed(memory, line),
+        Desk::Closed(memory) => answer_closed(memory, frame),
         Desk::Open(mut run) => {
-            let reply = answer_open(&mut run, line);
+            let reply = answer_open(&mut run, frame);
             Answered {
                 desk: Desk::Open(run),
                 reply,
             }
         }
     }
+}
+
+// The reply to a line.
+pub fn answer<M: CellMemory>(desk: Desk<M>, line: &[u8]) -> Answered<M>
+    ensures { Replies (session_of M.cells desk) (frame_in (bytes_of line.now)) result.reply (session_of M.cells result.desk) }
+{
+    answer_frame(desk, frames::parse(line))
 }

@@ -11,21 +11,21 @@ loop-rest-init g c = record { within = omega arith; replayed = nothing_yet; behi
 
 pub returns-in_default-put : goal.returns-in_default-put
 returns-in_default-put g c =
-    through_full _ (session_of g.M.CellMemory.cells c.loop-rest.desk) (session_of g.M.CellMemory.cells c.match-desk.desk) _ _ c.loop-rest.rest.now c.loop-rest.out _ c.split.result.0.now _ c.match-desk.reply
-    c.loop-rest.invariant (search (rules, tests)) c.split.ensures.line
+    through_full _ (session_of g.M.CellMemory.cells c.loop-rest.desk) (session_of g.M.CellMemory.cells c.match-desk.desk) _ _ c.loop-rest.rest.now c.loop-rest.out _ _ c.first-frame.result.0 c.match-desk.reply
+    c.loop-rest.invariant (search (rules, tests)) c.first-frame.ensures.frame
     (elim c.match-desk.branch [
       | in-Open w ↦ rw (w.desk-is, w.reply-is, w.in-Open.is) w.answer_open-reply.ensures
-      | in_default w ↦ rw (w.desk-is, w.reply-is) w.answer-answered.ensures
+      | in_default w ↦ rw (w.desk-is, w.reply-is) w.answer_frame-answered.ensures
     ])
     c.in_default-put.ensures
 
 pub loop-rest-preserved : goal.loop-rest-preserved
 loop-rest-preserved g c =
-    through_more _ (session_of g.M.CellMemory.cells c.loop-rest.desk) (session_of g.M.CellMemory.cells c.match-desk.desk) _ _ c.loop-rest.rest.now c.loop-rest.out _ c.split.result.0.now _ _ _ c.match-desk.reply
-    c.loop-rest.invariant (search (rules, tests)) c.split.ensures.line c.split.ensures.rest
+    through_more _ (session_of g.M.CellMemory.cells c.loop-rest.desk) (session_of g.M.CellMemory.cells c.match-desk.desk) _ _ c.loop-rest.rest.now c.loop-rest.out _ _ _ _ c.first-frame.result.0 c.match-desk.reply
+    c.loop-rest.invariant (search (rules, tests)) c.first-frame.ensures.frame c.first-frame.ensures.rest
     (elim c.match-desk.branch [
       | in-Open w ↦ rw (w.desk-is, w.reply-is, w.in-Open.is) w.answer_open-reply.ensures
-      | in_default w ↦ rw (w.desk-is, w.reply-is) w.answer-answered.ensures
+      | in_default w ↦ rw (w.desk-is, w.reply-is) w.answer_frame-answered.ensures
     ])
     c.in-Some.ensures
 

@@ -1,4 +1,4 @@
-use Rattle.session.proofs.answer.answer.Goals as goal
+use Rattle.session.proofs.answer.answer_frame.Goals as goal
 
 pub returns-in-Closed : goal.returns-in-Closed
 returns-in-Closed g c = rw c.in-Closed.is c.answer_closed.ensures
