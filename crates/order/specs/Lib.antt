@@ -1,0 +1,4 @@
+pub mod Graph
+pub mod Past
+pub mod Order
+pub mod Placed
