@@ -1,1 +1,11 @@
+mod LastBelow
+mod Rows
+mod Keys
+mod Moves
+mod Lives
+mod Events
+mod Finds
+mod Steps
+mod Deeds
 mod Replay
+mod Marked

@@ -2,3 +2,8 @@ pub mod Graph
 pub mod Past
 pub mod Order
 pub mod Placed
+pub mod Keys
+pub mod Marks
+pub mod Rows
+pub mod Finds
+pub mod Marked

@@ -1,0 +1,57 @@
+-- What calls do by the clock and to it stands by the stamps of their keys.
+use Rattle.std.proofs.Common.{◌≡◌, ℕ, suc, ◌<◌, ◌≤◌, Bool, true, false, Some, None, Option, ◌≢◌, refl, inl, inr, arith}
+use Rattle.std.proofs.lemmas.Bool.{cases_lt}
+use Rattle.codes.specs.declared.answer.Answer.{Answer}
+use Rattle.order.specs.Graph.{Feed, is_change}
+use Rattle.order.specs.Order.{Deed, changes, raises, neither, deed_as, InTurn}
+use Rattle.order.specs.Keys.{Key, Bounded, number}
+use Rattle.order.specs.Marks.{Marks, Sound}
+use Rattle.order.specs.Finds.{Event, nothing, Finds, adds_vertex, removes_vertex, adds_edge, removes_edge, finds_vertex, finds_no_vertex, finds_edge, takes_snapshot, reaches, reaches_none, is_spent}
+use Rattle.order.proofs.Keys.{compared}
+use Rattle.order.proofs.Moves.{moved_part_is}
+
+-- a change stands at its stamp, no later than a raise of the same time; a raise stands at its number and its time
+abbrev pub DeedAt : (ℕ → ℕ) → ℕ → Key → Deed → Type 0
+DeedAt clock bound k (changes n) = (k.stamp ≡ n) × (k.part ≤ bound)
+DeedAt clock bound k (raises t) = (k.stamp ≡ t) × (k.part ≡ bound) × (clock (suc k.time) ≡ suc t)
+DeedAt clock bound k neither = Unit {0}
+
+module _ (clock : ℕ → ℕ) (rises : (s t : ℕ) → s ≤ t → clock s ≤ clock t) (bound : ℕ) (k l : Key) (small_k : Bounded bound k) (small_l : Bounded bound l) (less : number bound k < number bound l) where
+  -- after a raise from t the clock is greater than t
+  after_raise : (t : ℕ) → DeedAt clock bound k (raises t) → clock l.time ≤ l.stamp → l.part ≤ bound → suc t ≤ l.stamp
+  after_raise t d fair part = elim (cases_lt k.time l.time) [
+    | inl z ↦ omega (arith, compared bound k l small_k small_l, rises (suc k.time) l.time z)
+    | inr z ↦ omega (arith, compared bound k l small_k small_l)
+  ]
+
+  pub deeds_in_turn : (c e : Deed) → clock l.time ≤ l.stamp → DeedAt clock bound k c → DeedAt clock bound l e → InTurn c e
+  deeds_in_turn (changes n) (changes m) fair d f = omega (arith, compared bound k l small_k small_l)
+  deeds_in_turn (changes n) (raises t) fair d f = omega (arith, compared bound k l small_k small_l)
+  deeds_in_turn (changes n) neither fair d f = tt
+  deeds_in_turn (raises t) (changes n) fair d f = omega (arith, after_raise t d fair (omega arith))
+  deeds_in_turn (raises t) (raises u) fair d f = omega (arith, after_raise t d fair (omega arith))
+  deeds_in_turn (raises t) neither fair d f = tt
+  deeds_in_turn neither e fair d f = tt
+
+module _ (bound top : ℕ) (m : Marks) (s : Sound bound top m) (k : Key) where
+  -- a call that changes the graph stands at the key of its change
+  pub change_at : (f : Feed) (v : Event) (a : Answer) → Finds bound top m k f v a → is_change a ≡ true → (v ≢ nothing) × (k.part ≤ bound)
+  change_at f v a (adds_vertex r l h q) e = (λ z. grind arith, rw q (omega arith))
+  change_at f v a (removes_vertex r l h q) e = (λ z. grind arith, rw q (omega arith))
+  change_at f v a (adds_edge x l i j h q) e = (λ z. grind arith, rw q (omega (arith, moved_part_is bound (m.vertex_del (m.source x)) (m.vertex_del (m.target x)) (m.edge_ins x), s.edge_ins x)))
+  change_at f v a (removes_edge x w l i j b h q) e = (λ z. grind arith, rw q (omega (arith, moved_part_is bound (m.vertex_del (m.source x)) (m.vertex_del (m.target x)) (m.edge_del x), s.edge_del x)))
+  change_at f v a (finds_vertex o i there h n) e = absurd (grind arith)
+  change_at f v a (finds_no_vertex o p h) e = absurd (grind arith)
+  change_at f v a (finds_edge o p r t there x y z i l h n) e = absurd (grind arith)
+  change_at f v a takes_snapshot e = absurd (grind arith)
+  change_at f v a (reaches i h) e = absurd (grind arith)
+  change_at f v a (reaches_none i h) e = absurd (grind arith)
+  change_at f v a (is_spent b n) e = absurd (grind arith)
+
+-- what is known of the stamp and the raise of a call that stands at the key k
+pub deed_at : (clock : ℕ → ℕ) (bound : ℕ) (k : Key) (change : Bool) (stamp raise : Option ℕ) → (change ≡ true → (stamp ≡ Some k.stamp) × (k.part ≤ bound)) →
+    ((t : ℕ) → raise ≡ Some t → (k.stamp ≡ t) × (k.part ≡ bound) × (clock (suc k.time) ≡ suc t)) → DeedAt clock bound k (deed_as change stamp raise)
+deed_at clock bound k true (Some n) raise h g = let (e, l) = h refl in (let q : n ≡ k.stamp = cc in omega arith, l)
+deed_at clock bound k true None raise h g = tt
+deed_at clock bound k false stamp (Some t) h g = g t refl
+deed_at clock bound k false stamp None h g = tt

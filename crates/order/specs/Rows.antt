@@ -1,0 +1,83 @@
+-- Rows that live from key to key, and the graph that they make at each key. Keys are numbers here.
+use Rattle.std.specs.Prelude.{ℕ, zero, suc, Bool, cond, ◌&&◌, Some, None, Option, is_some, ◌==◌, nat_le, nat_lt}
+use Rattle.questions.specs.Graph.{Graph}
+use Rattle.order.specs.Keys.{Key, number}
+use Rattle.order.specs.Marks.{Mark, Marks, change_key, has_effect, moved_key}
+
+-- a vertex row is there from the key at which it is born on, until the key at which it ends; an edge row too, as long as its vertex rows are. What
+-- has not come to pass stands at a key above all others
+pub record Rows : Type 0 where
+  pub vertices : ℕ
+  pub key_of : ℕ → ℕ
+  pub vertex_born : ℕ → ℕ
+  pub vertex_ends : ℕ → ℕ
+  pub edges : ℕ
+  pub source : ℕ → ℕ
+  pub target : ℕ → ℕ
+  pub weight : ℕ → ℕ
+  pub edge_born : ℕ → ℕ
+  pub edge_ends : ℕ → ℕ
+
+-- the greatest number below n that passes a test
+unfoldable pub last_below : (ℕ → Bool) → ℕ → Option ℕ
+last_below test zero = None
+last_below test (suc n) = cond (test n) (Some n) (last_below test n)
+
+module _ (w : Rows) (k : ℕ) where
+  -- vertex row r is there at key k
+  abbrev pub vertex_lives : ℕ → Bool
+  vertex_lives r = nat_le (w.vertex_born r) k && nat_lt k (w.vertex_ends r)
+
+  -- edge row e is there at key k
+  abbrev pub edge_lives : ℕ → Bool
+  edge_lives e = nat_le (w.edge_born e) k && (nat_lt k (w.edge_ends e) && (nat_lt k (w.vertex_ends (w.source e)) && nat_lt k (w.vertex_ends (w.target e))))
+
+  -- vertex row r shows that key i is there
+  abbrev pub shows_vertex : ℕ → ℕ → Bool
+  shows_vertex i r = (w.key_of r == i) && vertex_lives r
+
+  -- edge row e shows an edge from i to j
+  abbrev pub shows_edge : ℕ → ℕ → ℕ → Bool
+  shows_edge i j e = (w.key_of (w.source e) == i) && ((w.key_of (w.target e) == j) && edge_lives e)
+
+  abbrev pub weight_of : Option ℕ → Option ℕ
+  weight_of None = None
+  weight_of (Some e) = Some (w.weight e)
+
+  unfoldable pub has_at : ℕ → Bool
+  has_at i = is_some (last_below (shows_vertex i) w.vertices)
+
+  unfoldable pub edge_at : ℕ → ℕ → Option ℕ
+  edge_at i j = weight_of (last_below (shows_edge i j) w.edges)
+
+  -- the graph of the rows that are there at key k
+  abbrev pub graph_at : Graph
+  graph_at = record { has = has_at; edge = edge_at }
+
+-- a key above those of all stamps up to top, if n is greater than top
+abbrev pub far_key : ℕ → ℕ → Key
+far_key bound n = record { stamp = n; time = 0; part = bound }
+
+-- the stamp at which births stand that have not come, or have no effect
+abbrev pub unborn : ℕ → ℕ
+unborn top = suc (suc (suc top))
+
+module _ (bound top : ℕ) where
+  -- the key of an edge change m, or the far key of n where it has no effect
+  unfoldable pub edge_number : ℕ → Mark → Mark → Mark → ℕ
+  edge_number n d e m = cond (has_effect top d e m) (number bound (moved_key bound d e m)) (number bound (far_key bound n))
+
+  -- the lives that the marks give to the rows
+  abbrev pub rows_of : Marks → Rows
+  rows_of m = record {
+    vertices = m.vertices;
+    key_of = m.key_of;
+    vertex_born = λ r. number bound (change_key bound (m.vertex_ins r));
+    vertex_ends = λ r. number bound (change_key bound (m.vertex_del r));
+    edges = m.edges;
+    source = m.source;
+    target = m.target;
+    weight = m.weight;
+    edge_born = λ e. edge_number (unborn top) (m.vertex_del (m.source e)) (m.vertex_del (m.target e)) (m.edge_ins e);
+    edge_ends = λ e. edge_number (suc top) (m.vertex_del (m.source e)) (m.vertex_del (m.target e)) (m.edge_del e);
+  }
