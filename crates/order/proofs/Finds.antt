@@ -81,11 +81,11 @@ module _ (bound top : ℕ) (m : Marks) (s : Sound bound top m) (c : Key) (small 
   edge_found r t false a b l h = ap is_some (edge_absent (rows_of bound top m) (lawful bound top m s) k (m.key_of r) (m.key_of t) (λ e i f g. elim (cases_Bool (edge_lives (rows_of bound top m) k e)) [
     | inr z ↦ z
     | inl z ↦
-        (let w = rows_of bound top m in let o = lawful bound top m s in
+        (let rows = rows_of bound top m in let o = lawful bound top m s in
         let low = o.after_source e in let low' = o.after_target e in
         let r_born = change_before bound top c small (m.vertex_ins r) (s.vertex_ins r) a.born in let r_ends = change_after bound top c small (m.vertex_del r) (s.vertex_del r) a.ends in
         let t_born = change_before bound top c small (m.vertex_ins t) (s.vertex_ins t) b.born in let t_ends = change_after bound top c small (m.vertex_del t) (s.vertex_del t) b.ends in
-        let p : m.source e ≡ r = one_vertex_row w o k (m.key_of r) r (m.source e) (grind (arith, nat_tests)) (grind (arith, nat_tests)) in
-        let q : m.target e ≡ t = one_vertex_row w o k (m.key_of t) t (m.target e) (grind (arith, nat_tests)) (grind (arith, nat_tests)) in
+        let p : m.source e ≡ r = one_vertex_row rows o k (m.key_of r) r (m.source e) (grind (arith, nat_tests)) (grind (arith, nat_tests)) in
+        let q : m.target e ≡ t = one_vertex_row rows o k (m.key_of t) t (m.target e) (grind (arith, nat_tests)) (grind (arith, nat_tests)) in
         edge_not_there e l (rw p a.ends) (rw q b.ends) (h e p q))
   ]))

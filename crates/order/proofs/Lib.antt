@@ -6,6 +6,6 @@ mod Lives
 mod Events
 mod Finds
 mod Steps
-mod Deeds
+mod Stampings
 mod Replay
 mod Marked

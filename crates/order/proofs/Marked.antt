@@ -4,7 +4,7 @@ use Rattle.std.proofs.lemmas.Bool.{cases_Bool, cases_lt}
 use Rattle.codes.specs.declared.answer.Answer.{Answer}
 use Rattle.order.specs.Graph.{empty, answer_to, is_change, Shows}
 use Rattle.order.specs.Past.{Finish, Past, Precedes, fed}
-use Rattle.order.specs.Order.{Right, Explained, deed, InTurn, OneOrder}
+use Rattle.order.specs.Order.{Right, Explained, stamping, StampOrder, OneOrder}
 use Rattle.order.specs.Placed.{Placed}
 use Rattle.order.specs.Keys.{Key, Bounded, number, Fits}
 use Rattle.order.specs.Marks.{Mark, change_key, moved_key, has_effect}
@@ -17,7 +17,7 @@ use Rattle.order.proofs.Moves.{moved_for_le, moved_part_is, bounded_change, boun
 use Rattle.order.proofs.Lives.{edge_number_effect, edge_number_far, lawful}
 use Rattle.order.proofs.Steps.{Does, finds_does}
 use Rattle.order.proofs.Replay.{one_order}
-use Rattle.order.proofs.Deeds.{DeedAt, deeds_in_turn, change_at, deed_at}
+use Rattle.order.proofs.Stampings.{StampingAt, stampings_in_order, change_at, stamping_at}
 
 abbrev number_of : ℕ → Option Key → Option ℕ
 number_of bound None = None
@@ -28,8 +28,8 @@ number_of_some bound None n e = absurd (grind arith)
 number_of_some bound (Some k) n e = (k, refl, cc)
 
 module _ {h : Past} (p : Marked h) where
-  abbrev w : Rows
-  w = rows_of p.bound p.top p.marks
+  abbrev rows : Rows
+  rows = rows_of p.bound p.top p.marks
 
   abbrev key : ℕ → Option ℕ
   key b = number_of p.bound (p.key b)
@@ -125,24 +125,24 @@ module _ {h : Past} (p : Marked h) where
               ])
         ]
 
-    vertex_birth_owned : (r : ℕ) → w.vertex_born r ≡ suc n → Owned n (vertex_born r)
+    vertex_birth_owned : (r : ℕ) → rows.vertex_born r ≡ suc n → Owned n (vertex_born r)
     vertex_birth_owned r q = vertex_owned (p.marks.vertex_ins r) (vertex_born r) (p.sound.vertex_ins r) q (p.vertex_births r)
 
-    vertex_end_owned : (r : ℕ) → w.vertex_ends r ≡ suc n → Owned n (vertex_ends r)
+    vertex_end_owned : (r : ℕ) → rows.vertex_ends r ≡ suc n → Owned n (vertex_ends r)
     vertex_end_owned r q = vertex_owned (p.marks.vertex_del r) (vertex_ends r) (p.sound.vertex_del r) q (p.vertex_endings r)
 
-    edge_birth_owned : (e : ℕ) → w.edge_born e ≡ suc n → Owned n (edge_born e)
+    edge_birth_owned : (e : ℕ) → rows.edge_born e ≡ suc n → Owned n (edge_born e)
     edge_birth_owned e q =
         edge_owned (unborn p.top) (p.marks.vertex_del (p.marks.source e)) (p.marks.vertex_del (p.marks.target e)) (p.marks.edge_ins e) (edge_born e)
         (omega arith) (p.sound.edge_ins e) q (p.edge_births e)
 
-    edge_end_owned : (e : ℕ) → w.edge_ends e ≡ suc n → Owned n (edge_ends e)
+    edge_end_owned : (e : ℕ) → rows.edge_ends e ≡ suc n → Owned n (edge_ends e)
     edge_end_owned e q =
         edge_owned (suc p.top) (p.marks.vertex_del (p.marks.source e)) (p.marks.vertex_del (p.marks.target e)) (p.marks.edge_del e) (edge_ends e)
         (omega arith) (p.sound.edge_del e) q (p.edge_endings e)
 
     -- where a call has the key after n, nothing but its own change happens there
-    only_own : (b : ℕ) → key b ≡ Some (suc n) → Only w n (p.event b)
+    only_own : (b : ℕ) → key b ≡ Some (suc n) → Only rows n (p.event b)
     only_own b e = record {
       vertex_birth = λ r q. own (vertex_born r) (vertex_birth_owned r q);
       vertex_end = λ r q. own (vertex_ends r) (vertex_end_owned r q);
@@ -154,7 +154,7 @@ module _ {h : Past} (p : Marked h) where
         own v (c, f, g) = ap p.event (apart b c (suc n) e f) ∙ g
 
     -- where no call has it, nothing happens
-    only_nothing : ((b : ℕ) → key b ≡ Some (suc n) → ⊥) → Only w n nothing
+    only_nothing : ((b : ℕ) → key b ≡ Some (suc n) → ⊥) → Only rows n nothing
     only_nothing free = record {
       vertex_birth = λ r q. none (vertex_born r) (vertex_birth_owned r q);
       vertex_end = λ r q. none (vertex_ends r) (vertex_end_owned r q);
@@ -168,9 +168,9 @@ module _ {h : Past} (p : Marked h) where
   -- what the plain graph does at the key of a call, and what the run showed of it
   record Played (b n : ℕ) (k : Key) : Type 0 where
     answer : Answer
-    does : Does w n (fed h b) answer
+    does : Does rows n (fed h b) answer
     changes : is_change answer ≡ true → (h.stamp b ≡ Some k.stamp) × (k.part ≤ p.bound)
-    told : IfSome (h.finish b) (λ f. (f.answer ≡ answer) × Shows (graph_at w n) (fed h b) f.page)
+    told : IfSome (h.finish b) (λ f. (f.answer ≡ answer) × Shows (graph_at rows n) (fed h b) f.page)
 
   played : (b n : ℕ) (e : key b ≡ Some (suc n)) → Played b n (keyed b (suc n) e).at
   played b n e =
@@ -182,29 +182,29 @@ module _ {h : Past} (p : Marked h) where
         answer = a;
         does = finds_does p.bound p.top p.marks p.sound k.at k.small n k.number (fed h b) (p.event b) a finds (only_own n (omega arith) (omega arith) b e);
         changes = λ c. (let (some, part) = change_at p.bound p.top p.marks p.sound k.at (fed h b) (p.event b) a finds c in (p.stamps b k.at k.is some, part));
-        told = subst (λ i. IfSome (h.finish b) (λ f. (f.answer ≡ a) × Shows (graph_at w i) (fed h b) f.page)) before told;
+        told = subst (λ i. IfSome (h.finish b) (λ f. (f.answer ≡ a) × Shows (graph_at rows i) (fed h b) f.page)) before told;
       }
 
-  deed_stands : (b n : ℕ) (e : key b ≡ Some (suc n)) → DeedAt p.clock p.bound (keyed b (suc n) e).at (deed h (record { call = b; before = graph_at w n }))
-  deed_stands b n e =
+  stamping_stands : (b n : ℕ) (e : key b ≡ Some (suc n)) → StampingAt p.clock p.bound (keyed b (suc n) e).at (stamping h (record { call = b; before = graph_at rows n }))
+  stamping_stands b n e =
       let k = keyed b (suc n) e in let q = played b n e in
-      deed_at p.clock p.bound k.at (is_change (answer_to (graph_at w n) (fed h b))) (h.stamp b) (h.raise b)
+      stamping_at p.clock p.bound k.at (is_change (answer_to (graph_at rows n) (fed h b))) (h.stamp b) (h.raise b)
       (λ c. q.changes (ap is_change (sym q.does.0) ∙ c)) (λ t f. p.raises b k.at t k.is f)
 
-  in_turn : (b c n o : ℕ) → key b ≡ Some (suc n) → key c ≡ Some (suc o) → n < o →
-      InTurn (deed h (record { call = b; before = graph_at w n })) (deed h (record { call = c; before = graph_at w o }))
-  in_turn b c n o e f less =
+  in_stamp_order : (b c n o : ℕ) → key b ≡ Some (suc n) → key c ≡ Some (suc o) → n < o →
+      StampOrder (stamping h (record { call = b; before = graph_at rows n })) (stamping h (record { call = c; before = graph_at rows o }))
+  in_stamp_order b c n o e f less =
       let k = keyed b (suc n) e in let l = keyed c (suc o) f in
-      deeds_in_turn p.clock p.rises p.bound k.at l.at k.small l.small (omega (arith, k.number, l.number)) _ _
-      (p.fits c l.at l.is).fair (deed_stands b n e) (deed_stands c o f)
+      stampings_in_order p.clock p.rises p.bound k.at l.at k.small l.small (omega (arith, k.number, l.number)) _ _
+      (p.fits c l.at l.is).fair (stamping_stands b n e) (stamping_stands c o f)
 
-  explained : (b n : ℕ) → key b ≡ Some (suc n) → Explained h (record { call = b; before = graph_at w n })
+  explained : (b n : ℕ) → key b ≡ Some (suc n) → Explained h (record { call = b; before = graph_at rows n })
   explained b n e = go (h.finish b) (q.told)
     where
       q : Played b n (keyed b (suc n) e).at
       q = played b n e
 
-      go : (o : Option Finish) → IfSome o (λ f. (f.answer ≡ q.answer) × Shows (graph_at w n) (fed h b) f.page) → IfSome o (Right (graph_at w n) (fed h b))
+      go : (o : Option Finish) → IfSome o (λ f. (f.answer ≡ q.answer) × Shows (graph_at rows n) (fed h b) f.page) → IfSome o (Right (graph_at rows n) (fed h b))
       go None t = t
       go (Some f) t = record { answer = t.0 ∙ sym q.does.0; page = t.1 }
 
@@ -214,16 +214,16 @@ module _ {h : Past} (p : Marked h) where
     bottom = bottom;
     span = span;
     key = λ b. key b;
-    graph = λ n. graph_at w n;
-    counts = λ b n e. (let k = keyed b n e in p.counts b k.at k.is);
+    graph = λ n. graph_at rows n;
+    belongs = λ b n e. (let k = keyed b n e in p.belongs b k.at k.is);
     keyed = λ b c. (let (k, e) = p.keyed b c in (number p.bound k, cc));
     ranges = λ b n e. (let (early, low, high) = ranges b n e in (early, low, omega arith));
     apart = apart;
     precedence = in_precedence;
-    stamps = in_turn;
+    stamps = in_stamp_order;
     explained = explained;
     change = λ b n e. (played b n e).does.1;
-    still = λ n low high free. graph_still w (lawful p.bound p.top p.marks p.sound) n (only_nothing n low high free);
+    still = λ n low high free. graph_still rows (lawful p.bound p.top p.marks p.sound) n (only_nothing n low high free);
   }
 
   -- a call stands after the start
@@ -234,7 +234,7 @@ module _ {h : Past} (p : Marked h) where
 
   -- where no row is from before the start, the graph is empty there
   pub starts_empty : ((r : ℕ) → ¬ (Old p.clock (p.marks.vertex_ins r))) → ((e : ℕ) → ¬ (Old p.clock (p.marks.edge_ins e))) → start_graph p ≡ empty
-  starts_empty no_vertex no_edge = graph_empty w (lawful p.bound p.top p.marks p.sound) (number p.bound (start_key p))
+  starts_empty no_vertex no_edge = graph_empty rows (lawful p.bound p.top p.marks p.sound) (number p.bound (start_key p))
       (λ r. (let x = p.marks.vertex_ins r in elim (cases_lt p.top x.stamp) [
         | inl z ↦ number_by_stamp p.bound (start_key p) (change_key p.bound x) bounded_start (omega (arith, p.start_below))
         | inr z ↦ elim (p.vertex_births r z) [

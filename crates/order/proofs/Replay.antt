@@ -6,7 +6,7 @@ use Rattle.std.proofs.lemmas.List.Kept.{AllPairs-cons}
 use Rattle.questions.specs.Graph.{Graph}
 use Rattle.order.specs.Graph.{after}
 use Rattle.order.specs.Past.{Past, Precedes, fed}
-use Rattle.order.specs.Order.{Standing, standings, Explained, deed, InTurn, OneOrder}
+use Rattle.order.specs.Order.{Standing, standings, Explained, stamping, StampOrder, OneOrder}
 use Rattle.order.specs.Placed.{Placed}
 
 contains_first : (b : ℕ) (bs : List ℕ) → Contains (b ∷ bs) b
@@ -117,9 +117,9 @@ module _ {h : Past} (p : Placed h) where
       go (inr free) (order, w) = (order, walked_free k n order (p.still k low (omega arith) free) free w)
 
   -- what the keys say of the graph at a key holds of the graph that stands before the call
-  ahead_in_turn : (s t : Standing) → Ahead s t → InTurn (deed h s) (deed h t)
-  ahead_in_turn s t (k, e, q, (l, f, less, r)) =
-      subst₂ (λ g i. InTurn (deed h (record { call = s.call; before = g })) (deed h (record { call = t.call; before = i }))) (sym q) (sym r)
+  ahead_in_stamp_order : (s t : Standing) → Ahead s t → StampOrder (stamping h s) (stamping h t)
+  ahead_in_stamp_order s t (k, e, q, (l, f, less, r)) =
+      subst₂ (λ g i. StampOrder (stamping h (record { call = s.call; before = g })) (stamping h (record { call = t.call; before = i }))) (sym q) (sym r)
       (p.stamps s.call t.call k l e f less)
 
   above_explained : (k : ℕ) (s : Standing) → Above k s → Explained h s
@@ -141,12 +141,12 @@ module _ {h : Past} (p : Placed h) where
       let keyed : All Keyed order = all_of_calls h Keyed g order (λ i d l. (let (k, e, low, q) = w.above i d l in (suc k, e))) in
       record {
         members = λ b. (
-          λ c. (let (k, e) = All-contains Keyed order b keyed c in p.counts b k e),
+          λ c. (let (k, e) = All-contains Keyed order b keyed c in p.belongs b k e),
           λ c. (let (k, e) = p.keyed b c in let r = p.ranges b k e in w.holds b k e r.1 r.2),
         );
         once = pairs_of_calls h (λ b c. b ≢ c) g order (λ i j d l u. ahead_apart _ _ (w.sorted i j d l u));
         precedence = pairs_of_calls h (λ b c. ¬ (Precedes h c b)) g order (λ i j d l u. ahead_precedence _ _ (w.sorted i j d l u));
-        stamps = λ i j d l u. ahead_in_turn _ _ (w.sorted i j d l u);
+        stamps = λ i j d l u. ahead_in_stamp_order _ _ (w.sorted i j d l u);
         explains = λ i d l. above_explained p.bottom _ (w.above i d l);
       }
 

@@ -26,70 +26,70 @@ after_still g f a e h = cc
 
 -- fed with f where it stands after the key k, the plain graph answers a and goes on to the graph at the next key
 abbrev pub Does : Rows → ℕ → Feed → Answer → Type 0
-Does w k f a = (answer_to (graph_at w k) f ≡ a) × (graph_at w (suc k) ≡ after (graph_at w k) f)
+Does rows k f a = (answer_to (graph_at rows k) f ≡ a) × (graph_at rows (suc k) ≡ after (graph_at rows k) f)
 
-does_change : (w : Rows) (k : ℕ) (f : Feed) (a : Answer) → is_change a ≡ true → answer_to (graph_at w k) f ≡ a → graph_at w (suc k) ≡ changed (graph_at w k) f → Does w k f a
-does_change w k f a h e g = (e, g ∙ sym (after_changed (graph_at w k) f a e h))
+does_change : (rows : Rows) (k : ℕ) (f : Feed) (a : Answer) → is_change a ≡ true → answer_to (graph_at rows k) f ≡ a → graph_at rows (suc k) ≡ changed (graph_at rows k) f → Does rows k f a
+does_change rows k f a h e g = (e, g ∙ sym (after_changed (graph_at rows k) f a e h))
 
-does_nothing : (w : Rows) (k : ℕ) (f : Feed) (a : Answer) → is_change a ≡ false → answer_to (graph_at w k) f ≡ a → graph_at w (suc k) ≡ graph_at w k → Does w k f a
-does_nothing w k f a h e g = (e, g ∙ sym (after_still (graph_at w k) f a e h))
+does_nothing : (rows : Rows) (k : ℕ) (f : Feed) (a : Answer) → is_change a ≡ false → answer_to (graph_at rows k) f ≡ a → graph_at rows (suc k) ≡ graph_at rows k → Does rows k f a
+does_nothing rows k f a h e g = (e, g ∙ sym (after_still (graph_at rows k) f a e h))
 
 module _ (bound top : ℕ) (m : Marks) (s : Sound bound top m) (c : Key) (small : Bounded bound c) (k : ℕ) (at : number bound c ≡ suc k) where
-  abbrev w : Rows
-  w = rows_of bound top m
+  abbrev rows : Rows
+  rows = rows_of bound top m
 
-  does_add_vertex : (r : ℕ) → r < m.vertices → (m.vertex_ins r).stamp ≤ top → c ≡ change_key bound (m.vertex_ins r) → Only w k (vertex_born r) →
-      Does w k (asks (call.Vertex Add (m.key_of r))) VertexAdded
+  does_add_vertex : (r : ℕ) → r < m.vertices → (m.vertex_ins r).stamp ≤ top → c ≡ change_key bound (m.vertex_ins r) → Only rows k (vertex_born r) →
+      Does rows k (asks (call.Vertex Add (m.key_of r))) VertexAdded
   does_add_vertex r l h q o =
       let born : number bound (change_key bound (m.vertex_ins r)) ≡ suc k = ap (number bound) (sym q) ∙ at in
-      let (absent, graph) = vertex_added w (lawful bound top m s) k r o l born (omega (arith, vertex_life bound top m s r h)) in
-      does_change w k (asks (call.Vertex Add (m.key_of r))) VertexAdded refl (rw absent refl) graph
+      let (absent, graph) = vertex_added rows (lawful bound top m s) k r o l born (omega (arith, vertex_life bound top m s r h)) in
+      does_change rows k (asks (call.Vertex Add (m.key_of r))) VertexAdded refl (rw absent refl) graph
 
-  does_remove_vertex : (r : ℕ) → r < m.vertices → (m.vertex_ins r).stamp ≤ top → c ≡ change_key bound (m.vertex_del r) → Only w k (vertex_ends r) →
-      Does w k (asks (call.Vertex Remove (m.key_of r))) VertexRemoved
+  does_remove_vertex : (r : ℕ) → r < m.vertices → (m.vertex_ins r).stamp ≤ top → c ≡ change_key bound (m.vertex_del r) → Only rows k (vertex_ends r) →
+      Does rows k (asks (call.Vertex Remove (m.key_of r))) VertexRemoved
   does_remove_vertex r l h q o =
       let ends : number bound (change_key bound (m.vertex_del r)) ≡ suc k = ap (number bound) (sym q) ∙ at in
-      let (present, graph) = vertex_removed w (lawful bound top m s) k r o l ends (omega (arith, vertex_life bound top m s r h)) in
-      does_change w k (asks (call.Vertex Remove (m.key_of r))) VertexRemoved refl (rw present refl) graph
+      let (present, graph) = vertex_removed rows (lawful bound top m s) k r o l ends (omega (arith, vertex_life bound top m s r h)) in
+      does_change rows k (asks (call.Vertex Remove (m.key_of r))) VertexRemoved refl (rw present refl) graph
 
   module _ (e : ℕ) (row : e < m.edges) (source : m.source e < m.vertices) (target : m.target e < m.vertices) where
-    does_add_edge : edge_effect top m e (m.edge_ins e) ≡ true → c ≡ edge_key bound m e (m.edge_ins e) → Only w k (edge_born e) →
-        Does w k (asks (call.Edge Add (pair_of m e (m.weight e)))) EdgeAdded
+    does_add_edge : edge_effect top m e (m.edge_ins e) ≡ true → c ≡ edge_key bound m e (m.edge_ins e) → Only rows k (edge_born e) →
+        Does rows k (asks (call.Edge Add (pair_of m e (m.weight e)))) EdgeAdded
     does_add_edge h q o =
-        let born : w.edge_born e ≡ suc k = edge_number_effect bound top (unborn top) (m.vertex_del (m.source e)) (m.vertex_del (m.target e)) (m.edge_ins e) h ∙ ap (number bound) (sym q) ∙ at in
+        let born : rows.edge_born e ≡ suc k = edge_number_effect bound top (unborn top) (m.vertex_del (m.source e)) (m.vertex_del (m.target e)) (m.edge_ins e) h ∙ ap (number bound) (sym q) ∙ at in
         let lives = edge_life bound top m s e (suc k) h born in
-        let (absent, graph) = edge_added w (lawful bound top m s) k e o row born lives in
-        let (from, to) = vertices_present w (lawful bound top m s) k e source target (grind (arith, nat_tests)) (grind (arith, nat_tests)) (grind (arith, nat_tests)) in
-        does_change w k (asks (call.Edge Add (pair_of m e (m.weight e)))) EdgeAdded refl (rw (from, to, absent) refl) graph
+        let (absent, graph) = edge_added rows (lawful bound top m s) k e o row born lives in
+        let (from, to) = vertices_present rows (lawful bound top m s) k e source target (grind (arith, nat_tests)) (grind (arith, nat_tests)) (grind (arith, nat_tests)) in
+        does_change rows k (asks (call.Edge Add (pair_of m e (m.weight e)))) EdgeAdded refl (rw (from, to, absent) refl) graph
 
-    does_remove_edge : (x : ℕ) → (m.edge_ins e).stamp ≤ top → edge_effect top m e (m.edge_del e) ≡ true → c ≡ edge_key bound m e (m.edge_del e) → Only w k (edge_ends e) →
-        Does w k (asks (call.Edge Remove (pair_of m e x))) EdgeRemoved
+    does_remove_edge : (x : ℕ) → (m.edge_ins e).stamp ≤ top → edge_effect top m e (m.edge_del e) ≡ true → c ≡ edge_key bound m e (m.edge_del e) → Only rows k (edge_ends e) →
+        Does rows k (asks (call.Edge Remove (pair_of m e x))) EdgeRemoved
     does_remove_edge x b h q o =
-        let ends : w.edge_ends e ≡ suc k = edge_number_effect bound top (suc top) (m.vertex_del (m.source e)) (m.vertex_del (m.target e)) (m.edge_del e) h ∙ ap (number bound) (sym q) ∙ at in
+        let ends : rows.edge_ends e ≡ suc k = edge_number_effect bound top (suc top) (m.vertex_del (m.source e)) (m.vertex_del (m.target e)) (m.edge_del e) h ∙ ap (number bound) (sym q) ∙ at in
         let lives = edge_end bound top m s e k b h ends in
-        let (present, graph) = edge_removed w (lawful bound top m s) k e o row ends lives in
-        let (from, to) = vertices_present w (lawful bound top m s) k e source target (grind (arith, nat_tests)) (grind (arith, nat_tests)) (grind (arith, nat_tests)) in
-        does_change w k (asks (call.Edge Remove (pair_of m e x))) EdgeRemoved refl (rw (from, to, present) refl) graph
+        let (present, graph) = edge_removed rows (lawful bound top m s) k e o row ends lives in
+        let (from, to) = vertices_present rows (lawful bound top m s) k e source target (grind (arith, nat_tests)) (grind (arith, nat_tests)) (grind (arith, nat_tests)) in
+        does_change rows k (asks (call.Edge Remove (pair_of m e x))) EdgeRemoved refl (rw (from, to, present) refl) graph
 
   -- where a vertex of the pair is not there, not both are
-  not_both : (p : Pair) → VertexFound bound m c p.from false ⊎ VertexFound bound m c p.to false → both (graph_at w k) p ≡ false
+  not_both : (p : Pair) → VertexFound bound m c p.from false ⊎ VertexFound bound m c p.to false → both (graph_at rows k) p ≡ false
   not_both p (inl h) = let e = vertex_found bound top m s c small k at p.from false h in grind arith
   not_both p (inr h) = let e = vertex_found bound top m s c small k at p.to false h in grind arith
 
   -- both vertices are there, and the edge is or is not
   finds_pair : (o : Op) (p : Pair) (r t : ℕ) (there : Bool) → VertexThere bound m c r → m.key_of r ≡ p.from → VertexThere bound m c t → m.key_of t ≡ p.to → c.stamp ≤ top →
-      EdgeFound bound m c r t there → answer_to (graph_at w k) (asks (call.Edge o p)) ≡ edge_answer o there
+      EdgeFound bound m c r t there → answer_to (graph_at rows k) (asks (call.Edge o p)) ≡ edge_answer o there
   finds_pair o p r t there x e y i l h =
       let from = vertex_found bound top m s c small k at p.from true (r, x, e) in
       let to = vertex_found bound top m s c small k at p.to true (t, y, i) in
-      let edge : joined (graph_at w k) p ≡ there = subst₂ (λ i j. is_some (edge_at w k i j) ≡ there) e i (edge_found bound top m s c small k at r t there x y l h) in
+      let edge : joined (graph_at rows k) p ≡ there = subst₂ (λ i j. is_some (edge_at rows k i j) ≡ there) e i (edge_found bound top m s c small k at r t there x y l h) in
       rw (from, to, edge) refl
 
   -- what is asked and answered where nothing changes
-  still : (f : Feed) (a : Answer) → is_change a ≡ false → answer_to (graph_at w k) f ≡ a → Only w k nothing → Does w k f a
-  still f a n e o = does_nothing w k f a n e (graph_still w (lawful bound top m s) k o)
+  still : (f : Feed) (a : Answer) → is_change a ≡ false → answer_to (graph_at rows k) f ≡ a → Only rows k nothing → Does rows k f a
+  still f a n e o = does_nothing rows k f a n e (graph_still rows (lawful bound top m s) k o)
 
-  pub finds_does : (f : Feed) (v : Event) (a : Answer) → Finds bound top m c f v a → Only w k v → Does w k f a
+  pub finds_does : (f : Feed) (v : Event) (a : Answer) → Finds bound top m c f v a → Only rows k v → Does rows k f a
   finds_does f v a (adds_vertex r l h q) o = does_add_vertex r l h q o
   finds_does f v a (removes_vertex r l h q) o = does_remove_vertex r l h q o
   finds_does f v a (adds_edge e l i j h q) o = does_add_edge e l i j h q o

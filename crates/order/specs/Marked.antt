@@ -3,7 +3,7 @@ use Rattle.std.specs.Prelude.{◌≡◌, ℕ, suc, pred, ◌-◌, ◌*◌, ◌<�
 use Rattle.codes.specs.declared.answer.Answer.{Answer}
 use Rattle.questions.specs.Graph.{Graph}
 use Rattle.order.specs.Graph.{empty, Shows}
-use Rattle.order.specs.Past.{Finish, Past, Counts, fed}
+use Rattle.order.specs.Past.{Finish, Past, Belongs, fed}
 use Rattle.order.specs.Order.{OneOrder}
 use Rattle.order.specs.Keys.{Key, Bounded, number, Fits}
 use Rattle.order.specs.Marks.{Mark, Marks, Sound, change_key, edge_effect, edge_key}
@@ -40,8 +40,8 @@ pub record Marked (h : Past) : Type 0 where
   pub start_below : clock 0 ≤ top
   -- the key of the call that began at a time, exactly if it counts
   pub key : ℕ → Option Key
-  pub counts : (b : ℕ) (k : Key) → key b ≡ Some k → Counts h b
-  pub keyed : (b : ℕ) → Counts h b → (k : Key) × (key b ≡ Some k)
+  pub belongs : (b : ℕ) (k : Key) → key b ≡ Some k → Belongs h b
+  pub keyed : (b : ℕ) → Belongs h b → (k : Key) × (key b ≡ Some k)
   pub early : (b : ℕ) (k : Key) → key b ≡ Some k → b < now
   -- keys are of times and stamps of the run, after its start
   pub bounded : (b : ℕ) (k : Key) → key b ≡ Some k → Bounded bound k

@@ -2,7 +2,7 @@
 use Rattle.std.specs.Prelude.{◌≡◌, ℕ, suc, ◌≤◌, Bool, true, false, ◌≢◌, ◌↔◌, List, [], ◌∷◌, Some, None, Option, IfSome, All, AllPairs, Contains}
 use Rattle.questions.specs.Graph.{Graph}
 use Rattle.order.specs.Graph.{Feed, answer_to, is_change, after, Shows}
-use Rattle.order.specs.Past.{Finish, Past, Precedes, Counts, fed}
+use Rattle.order.specs.Past.{Finish, Past, Precedes, Belongs, fed}
 
 -- a call of an order, with the graph that the calls before it leave
 pub record Standing : Type 0 where
@@ -23,42 +23,42 @@ abbrev pub Explained : Past → Standing → Type 0
 Explained h s = IfSome (h.finish s.call) (Right s.before (fed h s.call))
 
 -- what a call does by the clock or to it: it changes the graph by a change that bears a stamp, it raises the clock from a number, or neither
-pub data Deed : Type 0 where
-  changes : (n : ℕ) → Deed
-  raises : (t : ℕ) → Deed
-  neither : Deed
+pub data Stamping : Type 0 where
+  changes : (n : ℕ) → Stamping
+  raises : (t : ℕ) → Stamping
+  neither : Stamping
 
-abbrev pub deed_as : Bool → Option ℕ → Option ℕ → Deed
-deed_as true (Some n) t = changes n
-deed_as true None t = neither
-deed_as false n (Some t) = raises t
-deed_as false n None = neither
+abbrev pub stamping_as : Bool → Option ℕ → Option ℕ → Stamping
+stamping_as true (Some n) t = changes n
+stamping_as true None t = neither
+stamping_as false n (Some t) = raises t
+stamping_as false n None = neither
 
 -- a change that has no effect where the call stands is none
-abbrev pub deed : Past → Standing → Deed
-deed h s = deed_as (is_change (answer_to s.before (fed h s.call))) (h.stamp s.call) (h.raise s.call)
+abbrev pub stamping : Past → Standing → Stamping
+stamping h s = stamping_as (is_change (answer_to s.before (fed h s.call))) (h.stamp s.call) (h.raise s.call)
 
 -- a change bears a number from n on, and a raise is from such a number
-abbrev pub From : ℕ → Deed → Type 0
-From n (changes m) = n ≤ m
-From n (raises t) = n ≤ t
-From n neither = Unit {0}
+abbrev pub AtLeast : ℕ → Stamping → Type 0
+AtLeast n (changes m) = n ≤ m
+AtLeast n (raises t) = n ≤ t
+AtLeast n neither = Unit {0}
 
 -- numbers never fall, and after a raise they are greater than the number from which it raised
-abbrev pub InTurn : Deed → Deed → Type 0
-InTurn (changes n) d = From n d
-InTurn (raises t) d = From (suc t) d
-InTurn neither d = Unit {0}
+abbrev pub StampOrder : Stamping → Stamping → Type 0
+StampOrder (changes n) d = AtLeast n d
+StampOrder (raises t) d = AtLeast (suc t) d
+StampOrder neither d = Unit {0}
 
 -- an order of the calls of the past h, from the graph g on
 pub record OneOrder (h : Past) (g : Graph) (order : List ℕ) : Type 0 where
   -- it holds exactly the finished calls and those unfinished calls whose change bears its stamp
-  pub members : (b : ℕ) → Contains order b ↔ Counts h b
+  pub members : (b : ℕ) → Contains order b ↔ Belongs h b
   -- each once
   pub once : AllPairs (λ b c. b ≢ c) order
   -- none stands behind a call that began after it was finished
   pub precedence : AllPairs (λ b c. ¬ (Precedes h c b)) order
   -- changes and raises stand by their stamps
-  pub stamps : AllPairs (λ s t. InTurn (deed h s) (deed h t)) (standings h g order)
+  pub stamps : AllPairs (λ s t. StampOrder (stamping h s) (stamping h t)) (standings h g order)
   -- the plain graph gives each finished call its answer and its page
   pub explains : All (Explained h) (standings h g order)

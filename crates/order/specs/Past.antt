@@ -28,7 +28,7 @@ abbrev pub Precedes : Past → ℕ → ℕ → Type 0
 Precedes h b c = (f : Finish) × (h.finish b ≡ Some f) × (f.time < c)
 
 -- the calls that have a place in the order: the finished ones, and the unfinished ones whose change bears its stamp
-pub record Counts (h : Past) (b : ℕ) : Type 0 where
+pub record Belongs (h : Past) (b : ℕ) : Type 0 where
   pub began : IsSome (h.begun b)
   pub done : IsSome (h.finish b) ⊎ IsSome (h.stamp b)
 

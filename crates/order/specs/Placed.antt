@@ -2,8 +2,8 @@
 use Rattle.std.specs.Prelude.{◌≡◌, ℕ, suc, ◌+◌, ◌<◌, ◌≤◌, ◌≢◌, List, Some, Option}
 use Rattle.questions.specs.Graph.{Graph}
 use Rattle.order.specs.Graph.{after}
-use Rattle.order.specs.Past.{Past, Precedes, Counts, fed}
-use Rattle.order.specs.Order.{Explained, deed, InTurn, OneOrder}
+use Rattle.order.specs.Past.{Past, Precedes, Belongs, fed}
+use Rattle.order.specs.Order.{Explained, stamping, StampOrder, OneOrder}
 
 -- a key for each call that counts, and the graph at each key
 pub record Placed (h : Past) : Type 0 where
@@ -17,8 +17,8 @@ pub record Placed (h : Past) : Type 0 where
   -- the graph at a key, after the call of that key
   pub graph : ℕ → Graph
   -- a call has a key exactly if it counts
-  pub counts : (b k : ℕ) → key b ≡ Some k → Counts h b
-  pub keyed : (b : ℕ) → Counts h b → (k : ℕ) × (key b ≡ Some k)
+  pub belongs : (b k : ℕ) → key b ≡ Some k → Belongs h b
+  pub keyed : (b : ℕ) → Belongs h b → (k : ℕ) × (key b ≡ Some k)
   pub ranges : (b k : ℕ) → key b ≡ Some k → (b < now) × (bottom < k) × (k ≤ bottom + span)
   -- no two calls have one key
   pub apart : (b c k : ℕ) → key b ≡ Some k → key c ≡ Some k → b ≡ c
@@ -26,7 +26,7 @@ pub record Placed (h : Past) : Type 0 where
   pub precedence : (b c k l : ℕ) → key b ≡ Some k → key c ≡ Some l → Precedes h b c → k < l
   -- changes and raises go by their stamps
   pub stamps : (b c k l : ℕ) → key b ≡ Some (suc k) → key c ≡ Some (suc l) → k < l →
-      InTurn (deed h (record { call = b; before = graph k })) (deed h (record { call = c; before = graph l }))
+      StampOrder (stamping h (record { call = b; before = graph k })) (stamping h (record { call = c; before = graph l }))
   -- the graph just before the key of a finished call gives the call its answer and its page
   pub explained : (b k : ℕ) → key b ≡ Some (suc k) → Explained h (record { call = b; before = graph k })
   -- at the key of a call the graph becomes what the call makes of it

@@ -23,32 +23,32 @@ unfoldable pub last_below : (ℕ → Bool) → ℕ → Option ℕ
 last_below test zero = None
 last_below test (suc n) = cond (test n) (Some n) (last_below test n)
 
-module _ (w : Rows) (k : ℕ) where
+module _ (rows : Rows) (k : ℕ) where
   -- vertex row r is there at key k
   abbrev pub vertex_lives : ℕ → Bool
-  vertex_lives r = nat_le (w.vertex_born r) k && nat_lt k (w.vertex_ends r)
+  vertex_lives r = nat_le (rows.vertex_born r) k && nat_lt k (rows.vertex_ends r)
 
   -- edge row e is there at key k
   abbrev pub edge_lives : ℕ → Bool
-  edge_lives e = nat_le (w.edge_born e) k && (nat_lt k (w.edge_ends e) && (nat_lt k (w.vertex_ends (w.source e)) && nat_lt k (w.vertex_ends (w.target e))))
+  edge_lives e = nat_le (rows.edge_born e) k && (nat_lt k (rows.edge_ends e) && (nat_lt k (rows.vertex_ends (rows.source e)) && nat_lt k (rows.vertex_ends (rows.target e))))
 
   -- vertex row r shows that key i is there
   abbrev pub shows_vertex : ℕ → ℕ → Bool
-  shows_vertex i r = (w.key_of r == i) && vertex_lives r
+  shows_vertex i r = (rows.key_of r == i) && vertex_lives r
 
   -- edge row e shows an edge from i to j
   abbrev pub shows_edge : ℕ → ℕ → ℕ → Bool
-  shows_edge i j e = (w.key_of (w.source e) == i) && ((w.key_of (w.target e) == j) && edge_lives e)
+  shows_edge i j e = (rows.key_of (rows.source e) == i) && ((rows.key_of (rows.target e) == j) && edge_lives e)
 
   abbrev pub weight_of : Option ℕ → Option ℕ
   weight_of None = None
-  weight_of (Some e) = Some (w.weight e)
+  weight_of (Some e) = Some (rows.weight e)
 
   unfoldable pub has_at : ℕ → Bool
-  has_at i = is_some (last_below (shows_vertex i) w.vertices)
+  has_at i = is_some (last_below (shows_vertex i) rows.vertices)
 
   unfoldable pub edge_at : ℕ → ℕ → Option ℕ
-  edge_at i j = weight_of (last_below (shows_edge i j) w.edges)
+  edge_at i j = weight_of (last_below (shows_edge i j) rows.edges)
 
   -- the graph of the rows that are there at key k
   abbrev pub graph_at : Graph

@@ -3,7 +3,7 @@ use Rattle.std.proofs.Common.{◌≡◌, ℕ, suc, ◌<◌, ◌≤◌, Bool, tru
 use Rattle.std.proofs.lemmas.Bool.{cases_lt}
 use Rattle.codes.specs.declared.answer.Answer.{Answer}
 use Rattle.order.specs.Graph.{Feed, is_change}
-use Rattle.order.specs.Order.{Deed, changes, raises, neither, deed_as, InTurn}
+use Rattle.order.specs.Order.{Stamping, changes, raises, neither, stamping_as, StampOrder}
 use Rattle.order.specs.Keys.{Key, Bounded, number}
 use Rattle.order.specs.Marks.{Marks, Sound}
 use Rattle.order.specs.Finds.{Event, nothing, Finds, adds_vertex, removes_vertex, adds_edge, removes_edge, finds_vertex, finds_no_vertex, finds_edge, takes_snapshot, reaches, reaches_none, is_spent}
@@ -11,27 +11,27 @@ use Rattle.order.proofs.Keys.{compared}
 use Rattle.order.proofs.Moves.{moved_part_is}
 
 -- a change stands at its stamp, no later than a raise of the same time; a raise stands at its number and its time
-abbrev pub DeedAt : (ℕ → ℕ) → ℕ → Key → Deed → Type 0
-DeedAt clock bound k (changes n) = (k.stamp ≡ n) × (k.part ≤ bound)
-DeedAt clock bound k (raises t) = (k.stamp ≡ t) × (k.part ≡ bound) × (clock (suc k.time) ≡ suc t)
-DeedAt clock bound k neither = Unit {0}
+abbrev pub StampingAt : (ℕ → ℕ) → ℕ → Key → Stamping → Type 0
+StampingAt clock bound k (changes n) = (k.stamp ≡ n) × (k.part ≤ bound)
+StampingAt clock bound k (raises t) = (k.stamp ≡ t) × (k.part ≡ bound) × (clock (suc k.time) ≡ suc t)
+StampingAt clock bound k neither = Unit {0}
 
 module _ (clock : ℕ → ℕ) (rises : (s t : ℕ) → s ≤ t → clock s ≤ clock t) (bound : ℕ) (k l : Key) (small_k : Bounded bound k) (small_l : Bounded bound l) (less : number bound k < number bound l) where
   -- after a raise from t the clock is greater than t
-  after_raise : (t : ℕ) → DeedAt clock bound k (raises t) → clock l.time ≤ l.stamp → l.part ≤ bound → suc t ≤ l.stamp
+  after_raise : (t : ℕ) → StampingAt clock bound k (raises t) → clock l.time ≤ l.stamp → l.part ≤ bound → suc t ≤ l.stamp
   after_raise t d fair part = elim (cases_lt k.time l.time) [
     | inl z ↦ omega (arith, compared bound k l small_k small_l, rises (suc k.time) l.time z)
     | inr z ↦ omega (arith, compared bound k l small_k small_l)
   ]
 
-  pub deeds_in_turn : (c e : Deed) → clock l.time ≤ l.stamp → DeedAt clock bound k c → DeedAt clock bound l e → InTurn c e
-  deeds_in_turn (changes n) (changes m) fair d f = omega (arith, compared bound k l small_k small_l)
-  deeds_in_turn (changes n) (raises t) fair d f = omega (arith, compared bound k l small_k small_l)
-  deeds_in_turn (changes n) neither fair d f = tt
-  deeds_in_turn (raises t) (changes n) fair d f = omega (arith, after_raise t d fair (omega arith))
-  deeds_in_turn (raises t) (raises u) fair d f = omega (arith, after_raise t d fair (omega arith))
-  deeds_in_turn (raises t) neither fair d f = tt
-  deeds_in_turn neither e fair d f = tt
+  pub stampings_in_order : (c e : Stamping) → clock l.time ≤ l.stamp → StampingAt clock bound k c → StampingAt clock bound l e → StampOrder c e
+  stampings_in_order (changes n) (changes m) fair d f = omega (arith, compared bound k l small_k small_l)
+  stampings_in_order (changes n) (raises t) fair d f = omega (arith, compared bound k l small_k small_l)
+  stampings_in_order (changes n) neither fair d f = tt
+  stampings_in_order (raises t) (changes n) fair d f = omega (arith, after_raise t d fair (omega arith))
+  stampings_in_order (raises t) (raises u) fair d f = omega (arith, after_raise t d fair (omega arith))
+  stampings_in_order (raises t) neither fair d f = tt
+  stampings_in_order neither e fair d f = tt
 
 module _ (bound top : ℕ) (m : Marks) (s : Sound bound top m) (k : Key) where
   -- a call that changes the graph stands at the key of its change
@@ -49,9 +49,9 @@ module _ (bound top : ℕ) (m : Marks) (s : Sound bound top m) (k : Key) where
   change_at f v a (is_spent b n) e = absurd (grind arith)
 
 -- what is known of the stamp and the raise of a call that stands at the key k
-pub deed_at : (clock : ℕ → ℕ) (bound : ℕ) (k : Key) (change : Bool) (stamp raise : Option ℕ) → (change ≡ true → (stamp ≡ Some k.stamp) × (k.part ≤ bound)) →
-    ((t : ℕ) → raise ≡ Some t → (k.stamp ≡ t) × (k.part ≡ bound) × (clock (suc k.time) ≡ suc t)) → DeedAt clock bound k (deed_as change stamp raise)
-deed_at clock bound k true (Some n) raise h g = let (e, l) = h refl in (let q : n ≡ k.stamp = cc in omega arith, l)
-deed_at clock bound k true None raise h g = tt
-deed_at clock bound k false stamp (Some t) h g = g t refl
-deed_at clock bound k false stamp None h g = tt
+pub stamping_at : (clock : ℕ → ℕ) (bound : ℕ) (k : Key) (change : Bool) (stamp raise : Option ℕ) → (change ≡ true → (stamp ≡ Some k.stamp) × (k.part ≤ bound)) →
+    ((t : ℕ) → raise ≡ Some t → (k.stamp ≡ t) × (k.part ≡ bound) × (clock (suc k.time) ≡ suc t)) → StampingAt clock bound k (stamping_as change stamp raise)
+stamping_at clock bound k true (Some n) raise h g = let (e, l) = h refl in (let q : n ≡ k.stamp = cc in omega arith, l)
+stamping_at clock bound k true None raise h g = tt
+stamping_at clock bound k false stamp (Some t) h g = g t refl
+stamping_at clock bound k false stamp None h g = tt
