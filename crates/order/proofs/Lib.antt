@@ -3,7 +3,7 @@ mod Rows
 mod Keys
 mod Moves
 mod Lives
-mod Events
+mod Changes
 mod Finds
 mod Steps
 mod Stampings

@@ -82,7 +82,7 @@ module _ (bound top : ℕ) (m : Marks) (s : Sound bound top m) where
   edges_apart : (e f : ℕ) → m.source e ≡ m.source f → m.target e ≡ m.target f → Earlier (m.edge_del e) (m.edge_ins f) → rows.edge_ends e ≤ rows.edge_born f
   edges_apart e f p q h =
       let less = edge_ends_before_born bound top (source_end e) (target_end e) (m.edge_del e) (m.edge_ins f) (s.edge_del e) (s.edge_ins f) h
-          (s.del_distinct e (m.source e)) (s.del_distinct e (m.target e)) in
+      (s.del_distinct e (m.source e)) (s.del_distinct e (m.target e)) in
       rw (← p, ← q) (omega (arith, less))
 
   pub lawful : Lawful rows
@@ -93,11 +93,11 @@ module _ (bound top : ℕ) (m : Marks) (s : Sound bound top m) where
     ];
     edge_apart = λ e f p q n. elim (s.edge_apart e f p q n) [ inl h ↦ inl (edges_apart e f p q h) | inr h ↦ inr (edges_apart f e (sym p) (sym q) h) ];
     after_source = λ e. (let r = m.source e in
-      vertex_born_before_edge bound top (m.vertex_ins r) (source_end e) (target_end e) (m.edge_ins e) (s.vertex_ins r) (s.births r)
-      (λ h. (s.source_first e h, s.vertex_order r (omega (arith, s.source_first e h)), s.source_meets e h)));
+        vertex_born_before_edge bound top (m.vertex_ins r) (source_end e) (target_end e) (m.edge_ins e) (s.vertex_ins r) (s.births r)
+        (λ h. (s.source_first e h, s.vertex_order r (omega (arith, s.source_first e h)), s.source_meets e h)));
     after_target = λ e. (let r = m.target e in
-      vertex_born_before_edge bound top (m.vertex_ins r) (source_end e) (target_end e) (m.edge_ins e) (s.vertex_ins r) (s.births r)
-      (λ h. (s.target_first e h, s.target_meets e h, s.vertex_order r (omega (arith, s.target_first e h)))));
+        vertex_born_before_edge bound top (m.vertex_ins r) (source_end e) (target_end e) (m.edge_ins e) (s.vertex_ins r) (s.births r)
+        (λ h. (s.target_first e h, s.target_meets e h, s.vertex_order r (omega (arith, s.target_first e h)))));
   }
 
   -- a vertex row that is born is there at the key of its birth

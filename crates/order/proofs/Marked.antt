@@ -1,18 +1,19 @@
 -- Calls whose run gives what it owes are placed.
 use Rattle.std.proofs.Common.{◌≡◌, ℕ, suc, pred, ◌+◌, ◌-◌, ◌<◌, ◌≤◌, true, Some, None, Option, IfSome, ◌⊎◌, refl, sym, ◌∙◌, ap, subst, inl, inr, arith}
 use Rattle.std.proofs.lemmas.Bool.{cases_Bool, cases_lt}
+use Rattle.std.proofs.lemmas.Option.{IfSome_then}
 use Rattle.codes.specs.declared.answer.Answer.{Answer}
-use Rattle.order.specs.Graph.{empty, answer_to, is_change, Shows}
-use Rattle.order.specs.Past.{Finish, Past, Precedes, fed}
-use Rattle.order.specs.Order.{Right, Explained, stamping, StampOrder, OneOrder}
+use Rattle.order.specs.Graph.{empty, answer_to, is_change}
+use Rattle.order.specs.Past.{Past, Precedes, fed}
+use Rattle.order.specs.Order.{Explained, stamping, StampOrder, OneOrder}
 use Rattle.order.specs.Placed.{Placed}
 use Rattle.order.specs.Keys.{Key, Bounded, number, Fits}
 use Rattle.order.specs.Marks.{Mark, change_key, moved_key, has_effect}
 use Rattle.order.specs.Rows.{Rows, graph_at, far_key, unborn, edge_number, rows_of}
-use Rattle.order.specs.Finds.{Event, nothing, vertex_born, vertex_ends, edge_born, edge_ends}
-use Rattle.order.specs.Marked.{end_of, Old, Made, Marked, start_key, start_graph, MarkedStands, FreshStands}
+use Rattle.order.specs.Finds.{RowChange, no_change, vertex_born, vertex_ends, edge_born, edge_ends}
+use Rattle.order.specs.Marked.{end_of, Old, Made, Told, Marked, start_key, start_graph, MarkedStands, Fresh, FreshStands}
 use Rattle.order.proofs.Keys.{number_by_stamp, compared, precedence}
-use Rattle.order.proofs.Events.{Only, graph_empty, graph_still}
+use Rattle.order.proofs.Changes.{Only, graph_empty, graph_still}
 use Rattle.order.proofs.Moves.{moved_for_le, moved_part_is, bounded_change, bounded_moved}
 use Rattle.order.proofs.Lives.{edge_number_effect, edge_number_far, lawful}
 use Rattle.order.proofs.Steps.{Does, finds_does}
@@ -52,7 +53,7 @@ module _ {h : Past} (p : Marked h) where
 
   bottom_and_span : bottom + span ≡ number p.bound last
   unfolding bottom span
-  bottom_and_span = omega (arith, number_by_stamp p.bound (start_key p) last bounded_start (omega (arith, p.start_below)))
+  bottom_and_span = omega (arith, number_by_stamp p.bound (start_key p) last bounded_start (omega (arith, p.start_stamp)))
 
   -- the key of a call, as a key
   record Keyed (b n : ℕ) : Type 0 where
@@ -88,16 +89,16 @@ module _ {h : Past} (p : Marked h) where
       omega (arith, k.number, l.number)
 
   -- the event v at the key after n is the change of a call with that key
-  abbrev Owned : ℕ → Event → Type 0
-  Owned n v = (b : ℕ) × (key b ≡ Some (suc n)) × (p.event b ≡ v)
+  abbrev Owned : ℕ → RowChange → Type 0
+  Owned n v = (b : ℕ) × (key b ≡ Some (suc n)) × (p.change b ≡ v)
 
-  owned_by : (k : Key) (n : ℕ) (v : Event) → number p.bound k ≡ suc n → Made p.key p.event k v → Owned n v
+  owned_by : (k : Key) (n : ℕ) (v : RowChange) → number p.bound k ≡ suc n → Made p.key p.change k v → Owned n v
   owned_by k n v q (b, e, f) = (b, cc, f)
 
   module _ (n : ℕ) (low : bottom ≤ n) (high : n < bottom + span) where
     -- a vertex change at the key after n
-    vertex_owned : (x : Mark) (v : Event) → x.time < p.bound → number p.bound (change_key p.bound x) ≡ suc n →
-        (x.stamp ≤ p.top → Old p.clock x ⊎ Made p.key p.event (change_key p.bound x) v) → Owned n v
+    vertex_owned : (x : Mark) (v : RowChange) → x.time < p.bound → number p.bound (change_key p.bound x) ≡ suc n →
+        (x.stamp ≤ p.top → Old p.clock x ⊎ Made p.key p.change (change_key p.bound x) v) → Owned n v
     unfolding bottom
     vertex_owned x v t q by =
         let small = bounded_change p.bound x t in
@@ -107,8 +108,8 @@ module _ {h : Past} (p : Marked h) where
         ]
 
     -- an edge change at the key after n, or a far key
-    edge_owned : (m : ℕ) (d e x : Mark) (v : Event) → p.top < m → x.time < p.bound → edge_number p.bound p.top m d e x ≡ suc n →
-        (has_effect p.top d e x ≡ true → Old p.clock x ⊎ Made p.key p.event (moved_key p.bound d e x) v) → Owned n v
+    edge_owned : (m : ℕ) (d e x : Mark) (v : RowChange) → p.top < m → x.time < p.bound → edge_number p.bound p.top m d e x ≡ suc n →
+        (has_effect p.top d e x ≡ true → Old p.clock x ⊎ Made p.key p.change (moved_key p.bound d e x) v) → Owned n v
     unfolding bottom
     edge_owned m d e x v far t q by =
         let small = bounded_moved p.bound d e x t in
@@ -142,7 +143,7 @@ module _ {h : Past} (p : Marked h) where
         (omega arith) (p.sound.edge_del e) q (p.edge_endings e)
 
     -- where a call has the key after n, nothing but its own change happens there
-    only_own : (b : ℕ) → key b ≡ Some (suc n) → Only rows n (p.event b)
+    only_own : (b : ℕ) → key b ≡ Some (suc n) → Only rows n (p.change b)
     only_own b e = record {
       vertex_birth = λ r q. own (vertex_born r) (vertex_birth_owned r q);
       vertex_end = λ r q. own (vertex_ends r) (vertex_end_owned r q);
@@ -150,11 +151,11 @@ module _ {h : Past} (p : Marked h) where
       edge_end = λ f q. own (edge_ends f) (edge_end_owned f q);
     }
       where
-        own : (v : Event) → Owned n v → p.event b ≡ v
-        own v (c, f, g) = ap p.event (apart b c (suc n) e f) ∙ g
+        own : (v : RowChange) → Owned n v → p.change b ≡ v
+        own v (c, f, g) = ap p.change (apart b c (suc n) e f) ∙ g
 
     -- where no call has it, nothing happens
-    only_nothing : ((b : ℕ) → key b ≡ Some (suc n) → ⊥) → Only rows n nothing
+    only_nothing : ((b : ℕ) → key b ≡ Some (suc n) → ⊥) → Only rows n no_change
     only_nothing free = record {
       vertex_birth = λ r q. none (vertex_born r) (vertex_birth_owned r q);
       vertex_end = λ r q. none (vertex_ends r) (vertex_end_owned r q);
@@ -162,7 +163,7 @@ module _ {h : Past} (p : Marked h) where
       edge_end = λ f q. none (edge_ends f) (edge_end_owned f q);
     }
       where
-        none : (v : Event) → Owned n v → nothing ≡ v
+        none : (v : RowChange) → Owned n v → no_change ≡ v
         none v (b, e, f) = absurd (free b e)
 
   -- what the plain graph does at the key of a call, and what the run showed of it
@@ -170,7 +171,7 @@ module _ {h : Past} (p : Marked h) where
     answer : Answer
     does : Does rows n (fed h b) answer
     changes : is_change answer ≡ true → (h.stamp b ≡ Some k.stamp) × (k.part ≤ p.bound)
-    told : IfSome (h.finish b) (λ f. (f.answer ≡ answer) × Shows (graph_at rows n) (fed h b) f.page)
+    told : IfSome (h.finish b) (Told (graph_at rows n) (fed h b) answer)
 
   played : (b n : ℕ) (e : key b ≡ Some (suc n)) → Played b n (keyed b (suc n) e).at
   played b n e =
@@ -180,9 +181,9 @@ module _ {h : Past} (p : Marked h) where
       let before : pred (number p.bound k.at) ≡ n = omega (arith, k.number) in
       record {
         answer = a;
-        does = finds_does p.bound p.top p.marks p.sound k.at k.small n k.number (fed h b) (p.event b) a finds (only_own n (omega arith) (omega arith) b e);
-        changes = λ c. (let (some, part) = change_at p.bound p.top p.marks p.sound k.at (fed h b) (p.event b) a finds c in (p.stamps b k.at k.is some, part));
-        told = subst (λ i. IfSome (h.finish b) (λ f. (f.answer ≡ a) × Shows (graph_at rows i) (fed h b) f.page)) before told;
+        does = finds_does p.bound p.top p.marks p.sound k.at k.small n k.number (fed h b) (p.change b) a finds (only_own n (omega arith) (omega arith) b e);
+        changes = λ c. (let (some, part) = change_at p.bound p.top p.marks p.sound k.at (fed h b) (p.change b) a finds c in (p.stamps b k.at k.is some, part));
+        told = subst (λ i. IfSome (h.finish b) (Told (graph_at rows i) (fed h b) a)) before told;
       }
 
   stamping_stands : (b n : ℕ) (e : key b ≡ Some (suc n)) → StampingAt p.clock p.bound (keyed b (suc n) e).at (stamping h (record { call = b; before = graph_at rows n }))
@@ -199,14 +200,7 @@ module _ {h : Past} (p : Marked h) where
       (p.fits c l.at l.is).fair (stamping_stands b n e) (stamping_stands c o f)
 
   explained : (b n : ℕ) → key b ≡ Some (suc n) → Explained h (record { call = b; before = graph_at rows n })
-  explained b n e = go (h.finish b) (q.told)
-    where
-      q : Played b n (keyed b (suc n) e).at
-      q = played b n e
-
-      go : (o : Option Finish) → IfSome o (λ f. (f.answer ≡ q.answer) × Shows (graph_at rows n) (fed h b) f.page) → IfSome o (Right (graph_at rows n) (fed h b))
-      go None t = t
-      go (Some f) t = record { answer = t.0 ∙ sym q.does.0; page = t.1 }
+  explained b n e = let q = played b n e in IfSome_then (h.finish b) q.told (λ f t. record { answer = t.answer ∙ sym q.does.0; page = t.page })
 
   pub placed : Placed h
   placed = record {
@@ -233,21 +227,21 @@ module _ {h : Past} (p : Marked h) where
       omega (arith, p.timed b k e, compared p.bound k (start_key p) (p.bounded b k e) bounded_start)
 
   -- where no row is from before the start, the graph is empty there
-  pub starts_empty : ((r : ℕ) → ¬ (Old p.clock (p.marks.vertex_ins r))) → ((e : ℕ) → ¬ (Old p.clock (p.marks.edge_ins e))) → start_graph p ≡ empty
-  starts_empty no_vertex no_edge = graph_empty rows (lawful p.bound p.top p.marks p.sound) (number p.bound (start_key p))
+  pub starts_empty : Fresh p → start_graph p ≡ empty
+  starts_empty fresh = graph_empty rows (lawful p.bound p.top p.marks p.sound) (number p.bound (start_key p))
       (λ r. (let x = p.marks.vertex_ins r in elim (cases_lt p.top x.stamp) [
-        | inl z ↦ number_by_stamp p.bound (start_key p) (change_key p.bound x) bounded_start (omega (arith, p.start_below))
+        | inl z ↦ number_by_stamp p.bound (start_key p) (change_key p.bound x) bounded_start (omega (arith, p.start_stamp))
         | inr z ↦ elim (p.vertex_births r z) [
-          | inl old ↦ absurd (no_vertex r old)
+          | inl old ↦ absurd (fresh.vertices r old)
           | inr (b, e, _) ↦ after_start b (change_key p.bound x) e
         ]
       ]))
       (λ e. (let d = p.marks.vertex_del (p.marks.source e) in let f = p.marks.vertex_del (p.marks.target e) in let x = p.marks.edge_ins e in
       elim (cases_Bool (has_effect p.top d f x)) [
         | inr z ↦ rw (edge_number_far p.bound p.top (unborn p.top) d f x z)
-            (number_by_stamp p.bound (start_key p) (far_key p.bound (unborn p.top)) bounded_start (omega (arith, p.start_below)))
+            (number_by_stamp p.bound (start_key p) (far_key p.bound (unborn p.top)) bounded_start (omega (arith, p.start_stamp)))
         | inl z ↦ elim (p.edge_births e z) [
-          | inl old ↦ absurd (no_edge e old)
+          | inl old ↦ absurd (fresh.edges e old)
           | inr (b, g, _) ↦ rw (edge_number_effect p.bound p.top (unborn p.top) d f x z) (after_start b (moved_key p.bound d f x) g)
         ]
       ]))
@@ -257,4 +251,4 @@ unfolding placed bottom
 marked_stands h p = one_order (placed p)
 
 pub fresh_stands : FreshStands
-fresh_stands h p no_vertex no_edge = let (order, o) = marked_stands h p in (order, subst (λ g. OneOrder h g order) (starts_empty p no_vertex no_edge) o)
+fresh_stands h p fresh = let (order, o) = marked_stands h p in (order, subst (λ g. OneOrder h g order) (starts_empty p fresh) o)

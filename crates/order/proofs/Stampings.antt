@@ -5,8 +5,9 @@ use Rattle.codes.specs.declared.answer.Answer.{Answer}
 use Rattle.order.specs.Graph.{Feed, is_change}
 use Rattle.order.specs.Order.{Stamping, changes, raises, neither, stamping_as, StampOrder}
 use Rattle.order.specs.Keys.{Key, Bounded, number}
-use Rattle.order.specs.Marks.{Marks, Sound}
-use Rattle.order.specs.Finds.{Event, nothing, Finds, adds_vertex, removes_vertex, adds_edge, removes_edge, finds_vertex, finds_no_vertex, finds_edge, takes_snapshot, reaches, reaches_none, is_spent}
+use Rattle.order.specs.Marks.{Mark, Marks, moved_part, Sound}
+use Rattle.order.specs.Finds.{RowChange, no_change, Finds}
+use Rattle.order.specs.Finds.{adds_vertex, removes_vertex, adds_edge, removes_edge, finds_vertex, finds_no_vertex, finds_edge, takes_snapshot, reaches, reaches_none, ends_spent}
 use Rattle.order.proofs.Keys.{compared}
 use Rattle.order.proofs.Moves.{moved_part_is}
 
@@ -34,19 +35,22 @@ module _ (clock : ℕ → ℕ) (rises : (s t : ℕ) → s ≤ t → clock s ≤ 
   stampings_in_order neither e fair d f = tt
 
 module _ (bound top : ℕ) (m : Marks) (s : Sound bound top m) (k : Key) where
+  moved_part_le : (d f x : Mark) → x.time < bound → moved_part bound d f x ≤ bound
+  moved_part_le d f x l = omega (arith, moved_part_is bound d f x)
+
   -- a call that changes the graph stands at the key of its change
-  pub change_at : (f : Feed) (v : Event) (a : Answer) → Finds bound top m k f v a → is_change a ≡ true → (v ≢ nothing) × (k.part ≤ bound)
-  change_at f v a (adds_vertex r l h q) e = (λ z. grind arith, rw q (omega arith))
-  change_at f v a (removes_vertex r l h q) e = (λ z. grind arith, rw q (omega arith))
-  change_at f v a (adds_edge x l i j h q) e = (λ z. grind arith, rw q (omega (arith, moved_part_is bound (m.vertex_del (m.source x)) (m.vertex_del (m.target x)) (m.edge_ins x), s.edge_ins x)))
-  change_at f v a (removes_edge x w l i j b h q) e = (λ z. grind arith, rw q (omega (arith, moved_part_is bound (m.vertex_del (m.source x)) (m.vertex_del (m.target x)) (m.edge_del x), s.edge_del x)))
+  pub change_at : (f : Feed) (v : RowChange) (a : Answer) → Finds bound top m k f v a → is_change a ≡ true → (v ≢ no_change) × (k.part ≤ bound)
+  change_at f v a (adds_vertex r h) e = (λ z. grind arith, rw h.key (omega arith))
+  change_at f v a (removes_vertex r h) e = (λ z. grind arith, rw h.key (omega arith))
+  change_at f v a (adds_edge x h) e = (λ z. grind arith, rw h.key (moved_part_le (m.vertex_del (m.source x)) (m.vertex_del (m.target x)) (m.edge_ins x) (s.edge_ins x)))
+  change_at f v a (removes_edge x weight h) e = (λ z. grind arith, rw h.key (moved_part_le (m.vertex_del (m.source x)) (m.vertex_del (m.target x)) (m.edge_del x) (s.edge_del x)))
   change_at f v a (finds_vertex o i there h n) e = absurd (grind arith)
   change_at f v a (finds_no_vertex o p h) e = absurd (grind arith)
-  change_at f v a (finds_edge o p r t there x y z i l h n) e = absurd (grind arith)
+  change_at f v a (finds_edge o p r t there h l i n) e = absurd (grind arith)
   change_at f v a takes_snapshot e = absurd (grind arith)
   change_at f v a (reaches i h) e = absurd (grind arith)
   change_at f v a (reaches_none i h) e = absurd (grind arith)
-  change_at f v a (is_spent b n) e = absurd (grind arith)
+  change_at f v a (ends_spent b n) e = absurd (grind arith)
 
 -- what is known of the stamp and the raise of a call that stands at the key k
 pub stamping_at : (clock : ℕ → ℕ) (bound : ℕ) (k : Key) (change : Bool) (stamp raise : Option ℕ) → (change ≡ true → (stamp ≡ Some k.stamp) × (k.part ≤ bound)) →

@@ -1,5 +1,5 @@
 -- What a call finds at its key is what the plain graph answers there, and what the plain graph makes of the call is what happens to the rows.
-use Rattle.std.proofs.Common.{◌≡◌, ℕ, suc, ◌<◌, ◌≤◌, Bool, true, false, is_some, ◌⊎◌, refl, sym, ◌∙◌, ap, subst₂, inl, inr, arith}
+use Rattle.std.proofs.Common.{◌≡◌, ℕ, suc, ◌≤◌, Bool, true, false, is_some, ◌⊎◌, refl, sym, ◌∙◌, ap, subst₂, inl, inr, arith}
 use Rattle.std.proofs.lemmas.Bool.Decides.{nat_tests}
 use Rattle.codes.specs.declared.answer.Answer.{Answer}
 use Rattle.codes.specs.declared.answer.Answer.TheVariants.{VertexAdded, VertexRemoved, VertexAbsent, EdgeAdded, EdgeRemoved, SnapshotTaken, ReachTaken}
@@ -11,10 +11,12 @@ use Rattle.places.specs.declared.place.Call.TheVariants as call
 use Rattle.questions.specs.Graph.{Graph}
 use Rattle.order.specs.Graph.{Feed, asks, spent, both, joined, vertex_answer, edge_answer, answer_to, is_change, changed, after}
 use Rattle.order.specs.Keys.{Key, Bounded, number}
-use Rattle.order.specs.Marks.{Marks, change_key, edge_effect, edge_key, Sound}
-use Rattle.order.specs.Rows.{Rows, edge_at, graph_at, unborn, rows_of}
-use Rattle.order.specs.Finds.{Event, nothing, vertex_born, vertex_ends, edge_born, edge_ends, VertexThere, VertexFound, EdgeFound, pair_of, Finds, adds_vertex, removes_vertex, adds_edge, removes_edge, finds_vertex, finds_no_vertex, finds_edge, takes_snapshot, reaches, reaches_none, is_spent}
-use Rattle.order.proofs.Events.{Only, graph_still, vertex_added, vertex_removed, vertices_present, edge_added, edge_removed}
+use Rattle.order.specs.Marks.{Marks, change_key, edge_key, Sound}
+use Rattle.order.specs.Rows.{has_at, Rows, edge_at, graph_at, unborn, rows_of}
+use Rattle.order.specs.Finds.{RowChange, no_change, vertex_born, vertex_ends, edge_born, edge_ends, VertexFound, PairThere, EdgeFound, VertexBirth, VertexEnd, EdgeBirth, EdgeEnd, pair_of, Finds}
+use Rattle.order.specs.Finds.{adds_vertex, removes_vertex, adds_edge, removes_edge, finds_vertex, finds_no_vertex, finds_edge, takes_snapshot, reaches, reaches_none, ends_spent}
+use Rattle.order.proofs.Changes.{Only, graph_still, vertex_added, vertex_removed, vertices_present, edge_added, edge_removed}
+use Rattle.order.proofs.Rows.{Lawful}
 use Rattle.order.proofs.Lives.{edge_number_effect, lawful, vertex_life, edge_life, edge_end}
 use Rattle.order.proofs.Finds.{vertex_found, edge_found}
 
@@ -38,66 +40,72 @@ module _ (bound top : ℕ) (m : Marks) (s : Sound bound top m) (c : Key) (small 
   abbrev rows : Rows
   rows = rows_of bound top m
 
-  does_add_vertex : (r : ℕ) → r < m.vertices → (m.vertex_ins r).stamp ≤ top → c ≡ change_key bound (m.vertex_ins r) → Only rows k (vertex_born r) →
-      Does rows k (asks (call.Vertex Add (m.key_of r))) VertexAdded
-  does_add_vertex r l h q o =
-      let born : number bound (change_key bound (m.vertex_ins r)) ≡ suc k = ap (number bound) (sym q) ∙ at in
-      let (absent, graph) = vertex_added rows (lawful bound top m s) k r o l born (omega (arith, vertex_life bound top m s r h)) in
+  abbrev laws : Lawful rows
+  laws = lawful bound top m s
+
+  -- the number of a key that is c
+  number_at : (d : Key) → c ≡ d → number bound d ≡ suc k
+  number_at d q = ap (number bound) (sym q) ∙ at
+
+  does_add_vertex : (r : ℕ) → VertexBirth bound top m c r → Only rows k (vertex_born r) → Does rows k (asks (call.Vertex Add (m.key_of r))) VertexAdded
+  does_add_vertex r v o =
+      let born = number_at (change_key bound (m.vertex_ins r)) v.key in
+      let (absent, graph) = vertex_added rows laws k r o v.row born (omega (arith, vertex_life bound top m s r v.stamped)) in
       does_change rows k (asks (call.Vertex Add (m.key_of r))) VertexAdded refl (rw absent refl) graph
 
-  does_remove_vertex : (r : ℕ) → r < m.vertices → (m.vertex_ins r).stamp ≤ top → c ≡ change_key bound (m.vertex_del r) → Only rows k (vertex_ends r) →
-      Does rows k (asks (call.Vertex Remove (m.key_of r))) VertexRemoved
-  does_remove_vertex r l h q o =
-      let ends : number bound (change_key bound (m.vertex_del r)) ≡ suc k = ap (number bound) (sym q) ∙ at in
-      let (present, graph) = vertex_removed rows (lawful bound top m s) k r o l ends (omega (arith, vertex_life bound top m s r h)) in
+  does_remove_vertex : (r : ℕ) → VertexEnd bound top m c r → Only rows k (vertex_ends r) → Does rows k (asks (call.Vertex Remove (m.key_of r))) VertexRemoved
+  does_remove_vertex r v o =
+      let ends = number_at (change_key bound (m.vertex_del r)) v.key in
+      let (present, graph) = vertex_removed rows laws k r o v.row ends (omega (arith, vertex_life bound top m s r v.stamped)) in
       does_change rows k (asks (call.Vertex Remove (m.key_of r))) VertexRemoved refl (rw present refl) graph
 
-  module _ (e : ℕ) (row : e < m.edges) (source : m.source e < m.vertices) (target : m.target e < m.vertices) where
-    does_add_edge : edge_effect top m e (m.edge_ins e) ≡ true → c ≡ edge_key bound m e (m.edge_ins e) → Only rows k (edge_born e) →
-        Does rows k (asks (call.Edge Add (pair_of m e (m.weight e)))) EdgeAdded
-    does_add_edge h q o =
-        let born : rows.edge_born e ≡ suc k = edge_number_effect bound top (unborn top) (m.vertex_del (m.source e)) (m.vertex_del (m.target e)) (m.edge_ins e) h ∙ ap (number bound) (sym q) ∙ at in
-        let lives = edge_life bound top m s e (suc k) h born in
-        let (absent, graph) = edge_added rows (lawful bound top m s) k e o row born lives in
-        let (from, to) = vertices_present rows (lawful bound top m s) k e source target (grind (arith, nat_tests)) (grind (arith, nat_tests)) (grind (arith, nat_tests)) in
-        does_change rows k (asks (call.Edge Add (pair_of m e (m.weight e)))) EdgeAdded refl (rw (from, to, absent) refl) graph
+  does_add_edge : (e : ℕ) → EdgeBirth bound top m c e → Only rows k (edge_born e) → Does rows k (asks (call.Edge Add (pair_of m e (m.weight e)))) EdgeAdded
+  does_add_edge e v o =
+      let born : rows.edge_born e ≡ suc k = edge_number_effect bound top (unborn top) _ _ (m.edge_ins e) v.effect ∙ number_at (edge_key bound m e (m.edge_ins e)) v.key in
+      let lives = edge_life bound top m s e (suc k) v.effect born in
+      let (absent, graph) = edge_added rows laws k e o v.row born lives in
+      let (from, to) = vertices_present rows laws k e v.source v.target (grind (arith, nat_tests)) (grind (arith, nat_tests)) (grind (arith, nat_tests)) in
+      does_change rows k (asks (call.Edge Add (pair_of m e (m.weight e)))) EdgeAdded refl (rw (from, to, absent) refl) graph
 
-    does_remove_edge : (x : ℕ) → (m.edge_ins e).stamp ≤ top → edge_effect top m e (m.edge_del e) ≡ true → c ≡ edge_key bound m e (m.edge_del e) → Only rows k (edge_ends e) →
-        Does rows k (asks (call.Edge Remove (pair_of m e x))) EdgeRemoved
-    does_remove_edge x b h q o =
-        let ends : rows.edge_ends e ≡ suc k = edge_number_effect bound top (suc top) (m.vertex_del (m.source e)) (m.vertex_del (m.target e)) (m.edge_del e) h ∙ ap (number bound) (sym q) ∙ at in
-        let lives = edge_end bound top m s e k b h ends in
-        let (present, graph) = edge_removed rows (lawful bound top m s) k e o row ends lives in
-        let (from, to) = vertices_present rows (lawful bound top m s) k e source target (grind (arith, nat_tests)) (grind (arith, nat_tests)) (grind (arith, nat_tests)) in
-        does_change rows k (asks (call.Edge Remove (pair_of m e x))) EdgeRemoved refl (rw (from, to, present) refl) graph
+  does_remove_edge : (e weight : ℕ) → EdgeEnd bound top m c e → Only rows k (edge_ends e) → Does rows k (asks (call.Edge Remove (pair_of m e weight))) EdgeRemoved
+  does_remove_edge e weight v o =
+      let ends : rows.edge_ends e ≡ suc k = edge_number_effect bound top (suc top) _ _ (m.edge_del e) v.effect ∙ number_at (edge_key bound m e (m.edge_del e)) v.key in
+      let lives = edge_end bound top m s e k v.stamped v.effect ends in
+      let (present, graph) = edge_removed rows laws k e o v.row ends lives in
+      let (from, to) = vertices_present rows laws k e v.source v.target (grind (arith, nat_tests)) (grind (arith, nat_tests)) (grind (arith, nat_tests)) in
+      does_change rows k (asks (call.Edge Remove (pair_of m e weight))) EdgeRemoved refl (rw (from, to, present) refl) graph
+
+  found : (i : ℕ) (there : Bool) → VertexFound bound m c i there → has_at rows k i ≡ there
+  found = vertex_found bound top m s c small k at
 
   -- where a vertex of the pair is not there, not both are
   not_both : (p : Pair) → VertexFound bound m c p.from false ⊎ VertexFound bound m c p.to false → both (graph_at rows k) p ≡ false
-  not_both p (inl h) = let e = vertex_found bound top m s c small k at p.from false h in grind arith
-  not_both p (inr h) = let e = vertex_found bound top m s c small k at p.to false h in grind arith
+  not_both p (inl h) = let e = found p.from false h in grind arith
+  not_both p (inr h) = let e = found p.to false h in grind arith
 
   -- both vertices are there, and the edge is or is not
-  finds_pair : (o : Op) (p : Pair) (r t : ℕ) (there : Bool) → VertexThere bound m c r → m.key_of r ≡ p.from → VertexThere bound m c t → m.key_of t ≡ p.to → c.stamp ≤ top →
-      EdgeFound bound m c r t there → answer_to (graph_at rows k) (asks (call.Edge o p)) ≡ edge_answer o there
-  finds_pair o p r t there x e y i l h =
-      let from = vertex_found bound top m s c small k at p.from true (r, x, e) in
-      let to = vertex_found bound top m s c small k at p.to true (t, y, i) in
-      let edge : joined (graph_at rows k) p ≡ there = subst₂ (λ i j. is_some (edge_at rows k i j) ≡ there) e i (edge_found bound top m s c small k at r t there x y l h) in
+  pair_found : (o : Op) (p : Pair) (r t : ℕ) (there : Bool) → PairThere bound m c p r t → c.stamp ≤ top → EdgeFound bound m c r t there →
+      answer_to (graph_at rows k) (asks (call.Edge o p)) ≡ edge_answer o there
+  pair_found o p r t there v l h =
+      let from = found p.from true (r, v.source, v.from) in
+      let to = found p.to true (t, v.target, v.to) in
+      let edge : joined (graph_at rows k) p ≡ there =
+      subst₂ (λ i j. is_some (edge_at rows k i j) ≡ there) v.from v.to (edge_found bound top m s c small k at r t there v.source v.target l h) in
       rw (from, to, edge) refl
 
-  -- what is asked and answered where nothing changes
-  still : (f : Feed) (a : Answer) → is_change a ≡ false → answer_to (graph_at rows k) f ≡ a → Only rows k nothing → Does rows k f a
-  still f a n e o = does_nothing rows k f a n e (graph_still rows (lawful bound top m s) k o)
+  -- where nothing changes
+  still : (f : Feed) (a : Answer) → is_change a ≡ false → answer_to (graph_at rows k) f ≡ a → Only rows k no_change → Does rows k f a
+  still f a n e o = does_nothing rows k f a n e (graph_still rows laws k o)
 
-  pub finds_does : (f : Feed) (v : Event) (a : Answer) → Finds bound top m c f v a → Only rows k v → Does rows k f a
-  finds_does f v a (adds_vertex r l h q) o = does_add_vertex r l h q o
-  finds_does f v a (removes_vertex r l h q) o = does_remove_vertex r l h q o
-  finds_does f v a (adds_edge e l i j h q) o = does_add_edge e l i j h q o
-  finds_does f v a (removes_edge e x l i j b h q) o = does_remove_edge e l i j x b h q o
-  finds_does f v a (finds_vertex p i there h n) o = still (asks (call.Vertex p i)) (vertex_answer p there) n (ap (vertex_answer p) (vertex_found bound top m s c small k at i there h)) o
+  pub finds_does : (f : Feed) (v : RowChange) (a : Answer) → Finds bound top m c f v a → Only rows k v → Does rows k f a
+  finds_does f v a (adds_vertex r h) o = does_add_vertex r h o
+  finds_does f v a (removes_vertex r h) o = does_remove_vertex r h o
+  finds_does f v a (adds_edge e h) o = does_add_edge e h o
+  finds_does f v a (removes_edge e weight h) o = does_remove_edge e weight h o
+  finds_does f v a (finds_vertex p i there h n) o = still (asks (call.Vertex p i)) (vertex_answer p there) n (ap (vertex_answer p) (found i there h)) o
   finds_does f v a (finds_no_vertex p q h) o = still (asks (call.Edge p q)) VertexAbsent refl (rw (not_both q h) refl) o
-  finds_does f v a (finds_edge p q r t there x e y i l h n) o = still (asks (call.Edge p q)) (edge_answer p there) n (finds_pair p q r t there x e y i l h) o
+  finds_does f v a (finds_edge p q r t there h l i n) o = still (asks (call.Edge p q)) (edge_answer p there) n (pair_found p q r t there h l i) o
   finds_does f v a takes_snapshot o = still (asks (call.Survey Snapshot)) SnapshotTaken refl refl o
-  finds_does f v a (reaches i h) o = still (asks (call.Survey (Reach i))) ReachTaken refl (rw (vertex_found bound top m s c small k at i true h) refl) o
-  finds_does f v a (reaches_none i h) o = still (asks (call.Survey (Reach i))) VertexAbsent refl (rw (vertex_found bound top m s c small k at i false h) refl) o
-  finds_does f v a (is_spent b n) o = still (spent b) b n refl o
+  finds_does f v a (reaches i h) o = still (asks (call.Survey (Reach i))) ReachTaken refl (rw (found i true h) refl) o
+  finds_does f v a (reaches_none i h) o = still (asks (call.Survey (Reach i))) VertexAbsent refl (rw (found i false h) refl) o
+  finds_does f v a (ends_spent b n) o = still (spent b) b n refl o

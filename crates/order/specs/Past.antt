@@ -27,7 +27,7 @@ pub record Past : Type 0 where
 abbrev pub Precedes : Past → ℕ → ℕ → Type 0
 Precedes h b c = (f : Finish) × (h.finish b ≡ Some f) × (f.time < c)
 
--- the calls that have a place in the order: the finished ones, and the unfinished ones whose change bears its stamp
+-- the call that began at b belongs to the order: it is finished, or it is unfinished and its change bears its stamp
 pub record Belongs (h : Past) (b : ℕ) : Type 0 where
   pub began : IsSome (h.begun b)
   pub done : IsSome (h.finish b) ⊎ IsSome (h.stamp b)
@@ -38,7 +38,7 @@ fed_until c RowsSpent = spent RowsSpent
 fed_until c ClockSpent = spent ClockSpent
 fed_until c a = asks c
 
--- where no call began there is nothing to ask, and no order has such a time
+-- where no call began there is nothing to ask, and no such time belongs to an order
 abbrev pub fed_as : Option Call → Option Finish → Feed
 fed_as None f = spent RowsSpent
 fed_as (Some c) None = asks c

@@ -4,8 +4,8 @@ use Rattle.questions.specs.Graph.{Graph}
 use Rattle.order.specs.Keys.{Key, number}
 use Rattle.order.specs.Marks.{Mark, Marks, change_key, has_effect, moved_key}
 
--- a vertex row is there from the key at which it is born on, until the key at which it ends; an edge row too, as long as its vertex rows are. What
--- has not come to pass stands at a key above all others
+-- a row is there from the key at which it is born to just before the key at which it ends; what has not happened stands at a key above those
+-- of all calls
 pub record Rows : Type 0 where
   pub vertices : ℕ
   pub key_of : ℕ → ℕ
@@ -24,15 +24,16 @@ last_below test zero = None
 last_below test (suc n) = cond (test n) (Some n) (last_below test n)
 
 module _ (rows : Rows) (k : ℕ) where
-  -- vertex row r is there at key k
+  -- vertex row r is there at the key k
   abbrev pub vertex_lives : ℕ → Bool
   vertex_lives r = nat_le (rows.vertex_born r) k && nat_lt k (rows.vertex_ends r)
 
-  -- edge row e is there at key k
+  -- edge row e is there, and its vertex rows have not ended
   abbrev pub edge_lives : ℕ → Bool
-  edge_lives e = nat_le (rows.edge_born e) k && (nat_lt k (rows.edge_ends e) && (nat_lt k (rows.vertex_ends (rows.source e)) && nat_lt k (rows.vertex_ends (rows.target e))))
+  edge_lives e =
+      nat_le (rows.edge_born e) k && (nat_lt k (rows.edge_ends e) && (nat_lt k (rows.vertex_ends (rows.source e)) && nat_lt k (rows.vertex_ends (rows.target e))))
 
-  -- vertex row r shows that key i is there
+  -- vertex row r shows that key i is a vertex
   abbrev pub shows_vertex : ℕ → ℕ → Bool
   shows_vertex i r = (rows.key_of r == i) && vertex_lives r
 
@@ -40,6 +41,7 @@ module _ (rows : Rows) (k : ℕ) where
   abbrev pub shows_edge : ℕ → ℕ → ℕ → Bool
   shows_edge i j e = (rows.key_of (rows.source e) == i) && ((rows.key_of (rows.target e) == j) && edge_lives e)
 
+  -- the weight of an edge row, if there is one
   abbrev pub weight_of : Option ℕ → Option ℕ
   weight_of None = None
   weight_of (Some e) = Some (rows.weight e)
@@ -50,22 +52,22 @@ module _ (rows : Rows) (k : ℕ) where
   unfoldable pub edge_at : ℕ → ℕ → Option ℕ
   edge_at i j = weight_of (last_below (shows_edge i j) rows.edges)
 
-  -- the graph of the rows that are there at key k
+  -- the graph that the rows show at the key k
   abbrev pub graph_at : Graph
   graph_at = record { has = has_at; edge = edge_at }
 
--- a key above those of all stamps up to top, if n is greater than top
+-- a key above those of all calls, if n is greater than their stamps
 abbrev pub far_key : ℕ → ℕ → Key
 far_key bound n = record { stamp = n; time = 0; part = bound }
 
--- the stamp at which births stand that have not come, or have no effect
+-- the number at which an edge row stands that is not born, or without an effect
 abbrev pub unborn : ℕ → ℕ
 unborn top = suc (suc (suc top))
 
 module _ (bound top : ℕ) where
-  -- the key of an edge change m, or the far key of n where it has no effect
+  -- the key of an edge change x between vertices that end by d and f, or the far key of n if it has no effect
   unfoldable pub edge_number : ℕ → Mark → Mark → Mark → ℕ
-  edge_number n d e m = cond (has_effect top d e m) (number bound (moved_key bound d e m)) (number bound (far_key bound n))
+  edge_number n d f x = cond (has_effect top d f x) (number bound (moved_key bound d f x)) (number bound (far_key bound n))
 
   -- the lives that the marks give to the rows
   abbrev pub rows_of : Marks → Rows

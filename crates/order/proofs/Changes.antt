@@ -5,21 +5,21 @@ use Rattle.std.proofs.lemmas.Bool.Decides.{nat_tests}
 use Rattle.questions.specs.Graph.{Graph}
 use Rattle.order.specs.Graph.{empty, with_vertex, without_vertex, with_edge}
 use Rattle.order.specs.Rows.{Rows, edge_lives, has_at, edge_at, graph_at}
-use Rattle.order.specs.Finds.{Event, nothing, vertex_born, vertex_ends, edge_born, edge_ends}
+use Rattle.order.specs.Finds.{RowChange, no_change, vertex_born, vertex_ends, edge_born, edge_ends}
 use Rattle.order.proofs.Rows.{Lawful, one_edge_row, vertex_present, vertex_absent, vertex_same, edge_present, edge_absent, EdgeStays, edge_same}
 
 -- at the key after k nothing but the event v happens
-pub record Only (rows : Rows) (k : ℕ) (v : Event) : Type 0 where
+pub record Only (rows : Rows) (k : ℕ) (v : RowChange) : Type 0 where
   pub vertex_birth : (r : ℕ) → rows.vertex_born r ≡ suc k → v ≡ vertex_born r
   pub vertex_end : (r : ℕ) → rows.vertex_ends r ≡ suc k → v ≡ vertex_ends r
   pub edge_birth : (e : ℕ) → rows.edge_born e ≡ suc k → v ≡ edge_born e
   pub edge_end : (e : ℕ) → rows.edge_ends e ≡ suc k → v ≡ edge_ends e
 
 -- rows that the event is not about stay
-vertex_stays : {rows : Rows} {k : ℕ} {v : Event} → Only rows k v → (r : ℕ) → v ≢ vertex_born r → v ≢ vertex_ends r → (rows.vertex_born r ≢ suc k) × (rows.vertex_ends r ≢ suc k)
+vertex_stays : {rows : Rows} {k : ℕ} {v : RowChange} → Only rows k v → (r : ℕ) → v ≢ vertex_born r → v ≢ vertex_ends r → (rows.vertex_born r ≢ suc k) × (rows.vertex_ends r ≢ suc k)
 vertex_stays o r a b = (λ u. a (o.vertex_birth r u), λ u. b (o.vertex_end r u))
 
-edge_stays : {rows : Rows} {k : ℕ} {v : Event} → Only rows k v → (e : ℕ) → v ≢ edge_born e → v ≢ edge_ends e → v ≢ vertex_ends (rows.source e) → v ≢ vertex_ends (rows.target e) →
+edge_stays : {rows : Rows} {k : ℕ} {v : RowChange} → Only rows k v → (e : ℕ) → v ≢ edge_born e → v ≢ edge_ends e → v ≢ vertex_ends (rows.source e) → v ≢ vertex_ends (rows.target e) →
     EdgeStays rows k e
 edge_stays {rows} o e a b c d = (λ u. a (o.edge_birth e u), λ u. b (o.edge_end e u), λ u. c (o.vertex_end (rows.source e) u), λ u. d (o.vertex_end (rows.target e) u))
 
@@ -33,7 +33,7 @@ module _ (rows : Rows) (l : Lawful rows) where
       (λ i j. edge_absent rows l k i j (λ f m p q. let x = e f in grind (arith, nat_tests)))
 
   -- nothing happens
-  pub graph_still : (k : ℕ) → Only rows k nothing → graph_at rows (suc k) ≡ graph_at rows k
+  pub graph_still : (k : ℕ) → Only rows k no_change → graph_at rows (suc k) ≡ graph_at rows k
   graph_still k o = graph_equal (graph_at rows (suc k)) (graph_at rows k)
       (λ i. vertex_same rows l k i (λ r q. vertex_stays o r (λ z. grind arith) (λ z. grind arith)))
       (λ i j. edge_same rows l k i j (λ e q p. edge_stays o e (λ z. grind arith) (λ z. grind arith) (λ z. grind arith) (λ z. grind arith)))
