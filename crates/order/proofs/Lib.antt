@@ -8,4 +8,6 @@ mod Finds
 mod Steps
 mod Stampings
 mod Replay
+mod Numbered
+mod Owners
 mod Marked

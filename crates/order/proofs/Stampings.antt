@@ -17,17 +17,17 @@ StampingAt clock bound k (changes n) = (k.stamp ≡ n) × (k.part ≤ bound)
 StampingAt clock bound k (raises t) = (k.stamp ≡ t) × (k.part ≡ bound) × (clock (suc k.time) ≡ suc t)
 StampingAt clock bound k neither = Unit {0}
 
-module _ (clock : ℕ → ℕ) (rises : (s t : ℕ) → s ≤ t → clock s ≤ clock t) (bound : ℕ) (k l : Key) (small_k : Bounded bound k) (small_l : Bounded bound l) (less : number bound k < number bound l) where
+module _ (clock : ℕ → ℕ) (rises : (s t : ℕ) → s ≤ t → clock s ≤ clock t) (bound : ℕ) (k l : Key) (bounded_k : Bounded bound k) (bounded_l : Bounded bound l) (less : number bound k < number bound l) where
   -- after a raise from t the clock is greater than t
   after_raise : (t : ℕ) → StampingAt clock bound k (raises t) → clock l.time ≤ l.stamp → l.part ≤ bound → suc t ≤ l.stamp
   after_raise t d fair part = elim (cases_lt k.time l.time) [
-    | inl z ↦ omega (arith, compared bound k l small_k small_l, rises (suc k.time) l.time z)
-    | inr z ↦ omega (arith, compared bound k l small_k small_l)
+    | inl z ↦ omega (arith, compared bound k l bounded_k bounded_l, rises (suc k.time) l.time z)
+    | inr z ↦ omega (arith, compared bound k l bounded_k bounded_l)
   ]
 
   pub stampings_in_order : (c e : Stamping) → clock l.time ≤ l.stamp → StampingAt clock bound k c → StampingAt clock bound l e → StampOrder c e
-  stampings_in_order (changes n) (changes m) fair d f = omega (arith, compared bound k l small_k small_l)
-  stampings_in_order (changes n) (raises t) fair d f = omega (arith, compared bound k l small_k small_l)
+  stampings_in_order (changes n) (changes m) fair d f = omega (arith, compared bound k l bounded_k bounded_l)
+  stampings_in_order (changes n) (raises t) fair d f = omega (arith, compared bound k l bounded_k bounded_l)
   stampings_in_order (changes n) neither fair d f = tt
   stampings_in_order (raises t) (changes n) fair d f = omega (arith, after_raise t d fair (omega arith))
   stampings_in_order (raises t) (raises u) fair d f = omega (arith, after_raise t d fair (omega arith))

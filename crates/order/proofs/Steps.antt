@@ -36,7 +36,7 @@ does_change rows k f a h e g = (e, g ∙ sym (after_changed (graph_at rows k) f 
 does_nothing : (rows : Rows) (k : ℕ) (f : Feed) (a : Answer) → is_change a ≡ false → answer_to (graph_at rows k) f ≡ a → graph_at rows (suc k) ≡ graph_at rows k → Does rows k f a
 does_nothing rows k f a h e g = (e, g ∙ sym (after_still (graph_at rows k) f a e h))
 
-module _ (bound top : ℕ) (m : Marks) (s : Sound bound top m) (c : Key) (small : Bounded bound c) (k : ℕ) (at : number bound c ≡ suc k) where
+module _ (bound top : ℕ) (m : Marks) (s : Sound bound top m) (c : Key) (bounded : Bounded bound c) (k : ℕ) (at : number bound c ≡ suc k) where
   abbrev rows : Rows
   rows = rows_of bound top m
 
@@ -76,7 +76,7 @@ module _ (bound top : ℕ) (m : Marks) (s : Sound bound top m) (c : Key) (small 
       does_change rows k (asks (call.Edge Remove (pair_of m e weight))) EdgeRemoved refl (rw (from, to, present) refl) graph
 
   found : (i : ℕ) (there : Bool) → VertexFound bound m c i there → has_at rows k i ≡ there
-  found = vertex_found bound top m s c small k at
+  found = vertex_found bound top m s c bounded k at
 
   -- where a vertex of the pair is not there, not both are
   not_both : (p : Pair) → VertexFound bound m c p.from false ⊎ VertexFound bound m c p.to false → both (graph_at rows k) p ≡ false
@@ -90,7 +90,7 @@ module _ (bound top : ℕ) (m : Marks) (s : Sound bound top m) (c : Key) (small 
       let from = found p.from true (r, v.source, v.from) in
       let to = found p.to true (t, v.target, v.to) in
       let edge : joined (graph_at rows k) p ≡ there =
-      subst₂ (λ i j. is_some (edge_at rows k i j) ≡ there) v.from v.to (edge_found bound top m s c small k at r t there v.source v.target l h) in
+      subst₂ (λ i j. is_some (edge_at rows k i j) ≡ there) v.from v.to (edge_found bound top m s c bounded k at r t there v.source v.target l h) in
       rw (from, to, edge) refl
 
   -- where nothing changes

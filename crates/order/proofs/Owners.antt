@@ -1,0 +1,91 @@
+-- What changes at the key of a call is the call's own change, and where no call has the key nothing changes.
+use Rattle.std.proofs.Common.{◌≡◌, ℕ, suc, ◌+◌, ◌<◌, ◌≤◌, true, Some, ◌⊎◌, sym, ◌∙◌, ap, inl, inr, arith}
+use Rattle.std.proofs.lemmas.Bool.{cases_Bool}
+use Rattle.order.specs.Past.{Past}
+use Rattle.order.specs.Keys.{Key, Bounded, number}
+use Rattle.order.specs.Marks.{Mark, change_key, moved_key, has_effect}
+use Rattle.order.specs.Rows.{far_key, unborn, edge_number}
+use Rattle.order.specs.Finds.{RowChange, no_change, vertex_born, vertex_ends, edge_born, edge_ends}
+use Rattle.order.specs.Marked.{Old, Made, Marked, start_key}
+use Rattle.order.proofs.Keys.{compared}
+use Rattle.order.proofs.Moves.{moved_for_le, moved_part_is, bounded_change, bounded_moved}
+use Rattle.order.proofs.Lives.{edge_number_effect, edge_number_far}
+use Rattle.order.proofs.Changes.{Only}
+use Rattle.order.proofs.Numbered.{rows, key, end_key, bounded_start, bounded_last, bottom, span, bottom_and_span, apart}
+
+module _ {h : Past} (p : Marked h) where
+  -- the change v at the key after n is that of a call with that key
+  abbrev Owned : ℕ → RowChange → Type 0
+  Owned n v = (b : ℕ) × (key p b ≡ Some (suc n)) × (p.change b ≡ v)
+
+  owned_by : (k : Key) (n : ℕ) (v : RowChange) → number p.bound k ≡ suc n → Made p.key p.change k v → Owned n v
+  owned_by k n v q (b, e, f) = (b, cc, f)
+
+  module _ (n : ℕ) (low : bottom p ≤ n) (high : n < bottom p + span p) where
+    -- a vertex change at the key after n
+    vertex_owned : (x : Mark) (v : RowChange) → x.time < p.bound → number p.bound (change_key p.bound x) ≡ suc n →
+        (x.stamp ≤ p.top → Old p.clock x ⊎ Made p.key p.change (change_key p.bound x) v) → Owned n v
+    vertex_owned x v t q by =
+        let bounded = bounded_change p.bound x t in
+        elim (by (omega (arith, bottom_and_span p, compared p.bound (change_key p.bound x) (end_key p) bounded (bounded_last p)))) [
+          | inl old ↦ absurd (omega (arith, compared p.bound (change_key p.bound x) (start_key p) bounded (bounded_start p)))
+          | inr made ↦ owned_by (change_key p.bound x) n v q made
+        ]
+
+    -- an edge change at the key after n, or a far key
+    edge_owned : (m : ℕ) (d e x : Mark) (v : RowChange) → p.top < m → x.time < p.bound → edge_number p.bound p.top m d e x ≡ suc n →
+        (has_effect p.top d e x ≡ true → Old p.clock x ⊎ Made p.key p.change (moved_key p.bound d e x) v) → Owned n v
+    edge_owned m d e x v far t q by =
+        let bounded = bounded_moved p.bound d e x t in
+        elim (cases_Bool (has_effect p.top d e x)) [
+          | inr f ↦
+              (let z = edge_number_far p.bound p.top m d e x f in
+              let bounded_far : Bounded p.bound (far_key p.bound m) = omega arith in
+              absurd (omega (arith, bottom_and_span p, compared p.bound (far_key p.bound m) (end_key p) bounded_far (bounded_last p))))
+          | inl f ↦
+              (let z = edge_number_effect p.bound p.top m d e x f in
+              elim (by f) [
+                | inl old ↦ absurd (omega (arith, compared p.bound (moved_key p.bound d e x) (start_key p) bounded (bounded_start p), moved_for_le d x, moved_part_is p.bound d e x))
+                | inr made ↦ owned_by (moved_key p.bound d e x) n v (sym z ∙ q) made
+              ])
+        ]
+
+    vertex_birth_owned : (r : ℕ) → (rows p).vertex_born r ≡ suc n → Owned n (vertex_born r)
+    vertex_birth_owned r q = vertex_owned (p.marks.vertex_ins r) (vertex_born r) (p.sound.vertex_ins r) q (p.vertex_births r)
+
+    vertex_end_owned : (r : ℕ) → (rows p).vertex_ends r ≡ suc n → Owned n (vertex_ends r)
+    vertex_end_owned r q = vertex_owned (p.marks.vertex_del r) (vertex_ends r) (p.sound.vertex_del r) q (p.vertex_endings r)
+
+    edge_birth_owned : (e : ℕ) → (rows p).edge_born e ≡ suc n → Owned n (edge_born e)
+    edge_birth_owned e q =
+        edge_owned (unborn p.top) (p.marks.vertex_del (p.marks.source e)) (p.marks.vertex_del (p.marks.target e)) (p.marks.edge_ins e) (edge_born e)
+        (omega arith) (p.sound.edge_ins e) q (p.edge_births e)
+
+    edge_end_owned : (e : ℕ) → (rows p).edge_ends e ≡ suc n → Owned n (edge_ends e)
+    edge_end_owned e q =
+        edge_owned (suc p.top) (p.marks.vertex_del (p.marks.source e)) (p.marks.vertex_del (p.marks.target e)) (p.marks.edge_del e) (edge_ends e)
+        (omega arith) (p.sound.edge_del e) q (p.edge_endings e)
+
+    -- where a call has the key after n, nothing but its own change happens there
+    pub only_own : (b : ℕ) → key p b ≡ Some (suc n) → Only (rows p) n (p.change b)
+    only_own b e = record {
+      vertex_birth = λ r q. own (vertex_born r) (vertex_birth_owned r q);
+      vertex_end = λ r q. own (vertex_ends r) (vertex_end_owned r q);
+      edge_birth = λ f q. own (edge_born f) (edge_birth_owned f q);
+      edge_end = λ f q. own (edge_ends f) (edge_end_owned f q);
+    }
+      where
+        own : (v : RowChange) → Owned n v → p.change b ≡ v
+        own v (c, f, g) = ap p.change (apart p b c (suc n) e f) ∙ g
+
+    -- where no call has it, nothing happens
+    pub only_nothing : ((b : ℕ) → key p b ≡ Some (suc n) → ⊥) → Only (rows p) n no_change
+    only_nothing free = record {
+      vertex_birth = λ r q. none (vertex_born r) (vertex_birth_owned r q);
+      vertex_end = λ r q. none (vertex_ends r) (vertex_end_owned r q);
+      edge_birth = λ f q. none (edge_born f) (edge_birth_owned f q);
+      edge_end = λ f q. none (edge_ends f) (edge_end_owned f q);
+    }
+      where
+        none : (v : RowChange) → Owned n v → no_change ≡ v
+        none v (b, e, f) = absurd (free b e)
