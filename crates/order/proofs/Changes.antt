@@ -16,12 +16,15 @@ pub record Only (rows : Rows) (k : ℕ) (v : RowChange) : Type 0 where
   pub edge_end : (e : ℕ) → rows.edge_ends e ≡ suc k → v ≡ edge_ends e
 
 -- rows that the event is not about stay
-vertex_stays : {rows : Rows} {k : ℕ} {v : RowChange} → Only rows k v → (r : ℕ) → v ≢ vertex_born r → v ≢ vertex_ends r → (rows.vertex_born r ≢ suc k) × (rows.vertex_ends r ≢ suc k)
+vertex_stays : {rows : Rows} {k : ℕ} {v : RowChange} → Only rows k v → (r : ℕ) → v ≢ vertex_born r → v ≢ vertex_ends r →
+    (rows.vertex_born r ≢ suc k) × (rows.vertex_ends r ≢ suc k)
 vertex_stays o r a b = (λ u. a (o.vertex_birth r u), λ u. b (o.vertex_end r u))
 
-edge_stays : {rows : Rows} {k : ℕ} {v : RowChange} → Only rows k v → (e : ℕ) → v ≢ edge_born e → v ≢ edge_ends e → v ≢ vertex_ends (rows.source e) → v ≢ vertex_ends (rows.target e) →
+edge_stays : {rows : Rows} {k : ℕ} {v : RowChange} → Only rows k v → (e : ℕ) → v ≢ edge_born e → v ≢ edge_ends e → v ≢ vertex_ends (rows.source e) →
+    v ≢ vertex_ends (rows.target e) →
     EdgeStays rows k e
-edge_stays {rows} o e a b c d = (λ u. a (o.edge_birth e u), λ u. b (o.edge_end e u), λ u. c (o.vertex_end (rows.source e) u), λ u. d (o.vertex_end (rows.target e) u))
+edge_stays {rows} o e a b c d =
+    (λ u. a (o.edge_birth e u), λ u. b (o.edge_end e u), λ u. c (o.vertex_end (rows.source e) u), λ u. d (o.vertex_end (rows.target e) u))
 
 pub graph_equal : (g h : Graph) → ((k : ℕ) → g.has k ≡ h.has k) → ((k j : ℕ) → g.edge k j ≡ h.edge k j) → g ≡ h
 graph_equal g h a b = λ i. record { has = λ k. a k i; edge = λ k j. b k j i }
@@ -67,6 +70,14 @@ module _ (rows : Rows) (l : Lawful rows) where
     ]
   ]
 
+  -- no edge of the key of the row goes on either
+  no_edge_heir : (k r : ℕ) → Only rows k (vertex_ends r) → rows.vertex_ends r ≡ suc k → rows.vertex_born r ≤ k → (i j : ℕ) →
+      (i ≡ rows.key_of r) ⊎ (j ≡ rows.key_of r) → edge_at rows (suc k) i j ≡ None
+  no_edge_heir k r o d b i j (inl q) = edge_absent rows l (suc k) i j
+      (λ e n f g. let x = no_heir k r o d b (rows.source e) (cc) in let y = l.after_source e in grind (arith, nat_tests))
+  no_edge_heir k r o d b i j (inr q) = edge_absent rows l (suc k) i j
+      (λ e n f g. let x = no_heir k r o d b (rows.target e) (cc) in let y = l.after_target e in grind (arith, nat_tests))
+
   pub vertex_removed : (k r : ℕ) → Only rows k (vertex_ends r) → r < rows.vertices → rows.vertex_ends r ≡ suc k → rows.vertex_born r ≤ k →
       (has_at rows k (rows.key_of r) ≡ true) × (graph_at rows (suc k) ≡ without_vertex (graph_at rows k) (rows.key_of r))
   vertex_removed k r o m d b = (
@@ -77,13 +88,9 @@ module _ (rows : Rows) (l : Lawful rows) where
           | inr q ↦ (let p = vertex_same rows l k i (λ s e. vertex_stays o s (λ z. grind arith) (λ z. q (cc))) in grind (arith, nat_tests))
         ])
         (λ i j. elim (cases_eq i (rows.key_of r)) [
-          | inl q ↦
-              (let p = edge_absent rows l (suc k) i j (λ e n f g. let x = no_heir k r o d b (rows.source e) (cc) in let y = l.after_source e in grind (arith, nat_tests)) in
-              grind (arith, nat_tests))
+          | inl q ↦ (let p = no_edge_heir k r o d b i j (inl q) in grind (arith, nat_tests))
           | inr q ↦ elim (cases_eq j (rows.key_of r)) [
-            | inl h ↦
-                (let p = edge_absent rows l (suc k) i j (λ e n f g. let x = no_heir k r o d b (rows.target e) (cc) in let y = l.after_target e in grind (arith, nat_tests)) in
-                grind (arith, nat_tests))
+            | inl h ↦ (let p = no_edge_heir k r o d b i j (inr h) in grind (arith, nat_tests))
             | inr h ↦
                 (let p = edge_same rows l k i j (λ e f g. edge_stays o e (λ z. grind arith) (λ z. grind arith) (λ z. q (cc)) (λ z. h (cc))) in
                 grind (arith, nat_tests))
@@ -92,7 +99,8 @@ module _ (rows : Rows) (l : Lawful rows) where
   )
 
   -- the vertices of an edge row that is born, or is there, are there
-  pub vertices_present : (k e : ℕ) → rows.source e < rows.vertices → rows.target e < rows.vertices → rows.edge_born e ≤ suc k → k < rows.vertex_ends (rows.source e) → k < rows.vertex_ends (rows.target e) →
+  pub vertices_present : (k e : ℕ) → rows.source e < rows.vertices → rows.target e < rows.vertices → rows.edge_born e ≤ suc k →
+      k < rows.vertex_ends (rows.source e) → k < rows.vertex_ends (rows.target e) →
       (has_at rows k (rows.key_of (rows.source e)) ≡ true) × (has_at rows k (rows.key_of (rows.target e)) ≡ true)
   vertices_present k e s t b x y =
       (vertex_present rows l k (rows.source e) s (omega (arith, l.after_source e)) x, vertex_present rows l k (rows.target e) t (omega (arith, l.after_target e)) y)

@@ -129,5 +129,6 @@ module _ (bound top : ℕ) (m : Marks) (s : Sound bound top m) where
       let ends = edge_number_effect bound top (suc top) d f y h in
       let source = moved_before_source bound d f y (s.edge_del e) (s.vertex_del (m.source e)) l (s.del_distinct e (m.source e) stamped) in
       let target = moved_before_target bound d f y (s.edge_del e) (s.vertex_del (m.target e)) r (s.del_distinct e (m.target e) stamped) in
-      let rises = moved_rises bound d f x y (s.edge_ins e) (s.edge_del e) before (s.ins_distinct e (m.source e) born_stamped) (s.ins_distinct e (m.target e) born_stamped) in
+      let a = s.ins_distinct e (m.source e) born_stamped in let b = s.ins_distinct e (m.target e) born_stamped in
+      let rises = moved_rises bound d f x y (s.edge_ins e) (s.edge_del e) before a b in
       grind (arith, nat_tests)

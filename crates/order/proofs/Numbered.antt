@@ -30,8 +30,8 @@ module _ {h : Past} (p : Marked h) where
   pub bounded_start : Bounded p.bound (start_key p)
   bounded_start = omega (arith, p.some_time)
 
-  pub bounded_last : Bounded p.bound end_key
-  bounded_last = omega (arith, p.some_time)
+  pub bounded_end : Bounded p.bound end_key
+  bounded_end = omega (arith, p.some_time)
 
   -- the number of the start, and how far above it that of the greatest key is
   abbrev pub bottom : ℕ
@@ -66,7 +66,7 @@ module _ {h : Past} (p : Marked h) where
       let timed = p.timed b k.at k.is in let stamped = p.stamped b k.at k.is in (
         p.early b k.at k.is,
         omega (arith, compared p.bound k.at (start_key p) k.bounded bounded_start, k.number),
-        omega (arith, bottom_and_span, compared p.bound k.at end_key k.bounded bounded_last, k.number),
+        omega (arith, bottom_and_span, compared p.bound k.at end_key k.bounded bounded_end, k.number),
       )
 
   pub in_precedence : (b c n o : ℕ) → key b ≡ Some n → key c ≡ Some o → Precedes h b c → n < o

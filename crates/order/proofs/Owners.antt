@@ -11,7 +11,7 @@ use Rattle.order.proofs.Keys.{compared}
 use Rattle.order.proofs.Moves.{moved_for_le, moved_part_is, bounded_change, bounded_moved}
 use Rattle.order.proofs.Lives.{edge_number_effect, edge_number_far}
 use Rattle.order.proofs.Changes.{Only}
-use Rattle.order.proofs.Numbered.{rows, key, end_key, bounded_start, bounded_last, bottom, span, bottom_and_span, apart}
+use Rattle.order.proofs.Numbered.{rows, key, end_key, bounded_start, bounded_end, bottom, span, bottom_and_span, apart}
 
 module _ {h : Past} (p : Marked h) where
   -- the change v at the key after n is that of a call with that key
@@ -27,28 +27,32 @@ module _ {h : Past} (p : Marked h) where
         (x.stamp ≤ p.top → Old p.clock x ⊎ Made p.key p.change (change_key p.bound x) v) → Owned n v
     vertex_owned x v t q by =
         let bounded = bounded_change p.bound x t in
-        elim (by (omega (arith, bottom_and_span p, compared p.bound (change_key p.bound x) (end_key p) bounded (bounded_last p)))) [
+        elim (by (omega (arith, bottom_and_span p, compared p.bound (change_key p.bound x) (end_key p) bounded (bounded_end p)))) [
           | inl old ↦ absurd (omega (arith, compared p.bound (change_key p.bound x) (start_key p) bounded (bounded_start p)))
           | inr made ↦ owned_by (change_key p.bound x) n v q made
         ]
 
-    -- an edge change at the key after n, or a far key
-    edge_owned : (m : ℕ) (d e x : Mark) (v : RowChange) → p.top < m → x.time < p.bound → edge_number p.bound p.top m d e x ≡ suc n →
-        (has_effect p.top d e x ≡ true → Old p.clock x ⊎ Made p.key p.change (moved_key p.bound d e x) v) → Owned n v
-    edge_owned m d e x v far t q by =
-        let bounded = bounded_moved p.bound d e x t in
-        elim (cases_Bool (has_effect p.top d e x)) [
-          | inr f ↦
-              (let z = edge_number_far p.bound p.top m d e x f in
-              let bounded_far : Bounded p.bound (far_key p.bound m) = omega arith in
-              absurd (omega (arith, bottom_and_span p, compared p.bound (far_key p.bound m) (end_key p) bounded_far (bounded_last p))))
-          | inl f ↦
-              (let z = edge_number_effect p.bound p.top m d e x f in
-              elim (by f) [
-                | inl old ↦ absurd (omega (arith, compared p.bound (moved_key p.bound d e x) (start_key p) bounded (bounded_start p), moved_for_le d x, moved_part_is p.bound d e x))
-                | inr made ↦ owned_by (moved_key p.bound d e x) n v (sym z ∙ q) made
-              ])
-        ]
+    -- a far key is above those of all calls
+    far_not_next : (m : ℕ) → p.top < m → number p.bound (far_key p.bound m) ≡ suc n → ⊥
+    far_not_next m far q =
+        let bounded_far : Bounded p.bound (far_key p.bound m) = omega (arith, p.some_time) in
+        omega (arith, bottom_and_span p, compared p.bound (far_key p.bound m) (end_key p) bounded_far (bounded_end p))
+
+    -- an edge change from before the start has a key of the start
+    old_not_next : (d f x : Mark) → x.time < p.bound → Old p.clock x → number p.bound (moved_key p.bound d f x) ≡ suc n → ⊥
+    old_not_next d f x t old q =
+        let order = compared p.bound (moved_key p.bound d f x) (start_key p) (bounded_moved p.bound d f x t) (bounded_start p) in
+        omega (arith, order, moved_for_le d x, moved_part_is p.bound d f x)
+
+    -- an edge change at the key after n
+    edge_owned : (m : ℕ) (d f x : Mark) (v : RowChange) → p.top < m → x.time < p.bound → edge_number p.bound p.top m d f x ≡ suc n →
+        (has_effect p.top d f x ≡ true → Old p.clock x ⊎ Made p.key p.change (moved_key p.bound d f x) v) → Owned n v
+    edge_owned m d f x v far t q by = elim (cases_Bool (has_effect p.top d f x)) [
+      | inr h ↦ absurd (far_not_next m far (sym (edge_number_far p.bound p.top m d f x h) ∙ q))
+      | inl h ↦
+          (let at = sym (edge_number_effect p.bound p.top m d f x h) ∙ q in
+          elim (by h) [ inl old ↦ absurd (old_not_next d f x t old at) | inr made ↦ owned_by (moved_key p.bound d f x) n v at made ])
+    ]
 
     vertex_birth_owned : (r : ℕ) → (rows p).vertex_born r ≡ suc n → Owned n (vertex_born r)
     vertex_birth_owned r q = vertex_owned (p.marks.vertex_ins r) (vertex_born r) (p.sound.vertex_ins r) q (p.vertex_births r)

@@ -8,13 +8,15 @@ use Rattle.order.proofs.LastBelow.{last_below_same, last_below_none, last_below_
 -- of two rows of a key, or two edge rows bound alike, one has ended when the other is born; an edge row is born after its vertex rows
 pub record Lawful (rows : Rows) : Type 0 where
   pub vertex_apart : (r s : ℕ) → rows.key_of r ≡ rows.key_of s → r ≢ s → (rows.vertex_ends r ≤ rows.vertex_born s) ⊎ (rows.vertex_ends s ≤ rows.vertex_born r)
-  pub edge_apart : (e f : ℕ) → rows.source e ≡ rows.source f → rows.target e ≡ rows.target f → e ≢ f → (rows.edge_ends e ≤ rows.edge_born f) ⊎ (rows.edge_ends f ≤ rows.edge_born e)
+  pub edge_apart : (e f : ℕ) → rows.source e ≡ rows.source f → rows.target e ≡ rows.target f → e ≢ f →
+      (rows.edge_ends e ≤ rows.edge_born f) ⊎ (rows.edge_ends f ≤ rows.edge_born e)
   pub after_source : (e : ℕ) → rows.vertex_born (rows.source e) < rows.edge_born e
   pub after_target : (e : ℕ) → rows.vertex_born (rows.target e) < rows.edge_born e
 
 -- an edge row that is neither born nor ends at the next key, and whose vertex rows do not end there
 abbrev pub EdgeStays : Rows → ℕ → ℕ → Type 0
-EdgeStays rows k e = (rows.edge_born e ≢ suc k) × (rows.edge_ends e ≢ suc k) × (rows.vertex_ends (rows.source e) ≢ suc k) × (rows.vertex_ends (rows.target e) ≢ suc k)
+EdgeStays rows k e =
+    (rows.edge_born e ≢ suc k) × (rows.edge_ends e ≢ suc k) × (rows.vertex_ends (rows.source e) ≢ suc k) × (rows.vertex_ends (rows.target e) ≢ suc k)
 
 module _ (rows : Rows) (l : Lawful rows) where
   -- of one key at most one row is there
@@ -44,7 +46,8 @@ module _ (rows : Rows) (l : Lawful rows) where
       let f = last_below_only (shows_vertex rows k (rows.key_of r)) rows.vertices r m s (λ t u c. one_vertex_row k (rows.key_of r) r t s c) in
       cc
 
-  pub vertex_absent : (k i : ℕ) → ((r : ℕ) → r < rows.vertices → rows.key_of r ≡ i → (k < rows.vertex_born r) ⊎ (rows.vertex_ends r ≤ k)) → has_at rows k i ≡ false
+  pub vertex_absent : (k i : ℕ) → ((r : ℕ) → r < rows.vertices → rows.key_of r ≡ i → (k < rows.vertex_born r) ⊎ (rows.vertex_ends r ≤ k)) →
+      has_at rows k i ≡ false
   unfolding has_at
   vertex_absent k i h =
       let none : (r : ℕ) → r < rows.vertices → shows_vertex rows k i r ≡ false = λ r m.
@@ -53,7 +56,8 @@ module _ (rows : Rows) (l : Lawful rows) where
       cc
 
   -- no row of key i is born or ends at the next key
-  pub vertex_same : (k i : ℕ) → ((r : ℕ) → rows.key_of r ≡ i → (rows.vertex_born r ≢ suc k) × (rows.vertex_ends r ≢ suc k)) → has_at rows (suc k) i ≡ has_at rows k i
+  pub vertex_same : (k i : ℕ) → ((r : ℕ) → rows.key_of r ≡ i → (rows.vertex_born r ≢ suc k) × (rows.vertex_ends r ≢ suc k)) →
+      has_at rows (suc k) i ≡ has_at rows k i
   unfolding has_at
   vertex_same k i h =
       let same : (r : ℕ) → r < rows.vertices → shows_vertex rows (suc k) i r ≡ shows_vertex rows k i r = λ r m.
@@ -61,7 +65,8 @@ module _ (rows : Rows) (l : Lawful rows) where
       let f = last_below_same (shows_vertex rows (suc k) i) (shows_vertex rows k i) rows.vertices same in
       cc
 
-  pub edge_present : (k e : ℕ) → e < rows.edges → edge_lives rows k e ≡ true → edge_at rows k (rows.key_of (rows.source e)) (rows.key_of (rows.target e)) ≡ Some (rows.weight e)
+  pub edge_present : (k e : ℕ) → e < rows.edges → edge_lives rows k e ≡ true →
+      edge_at rows k (rows.key_of (rows.source e)) (rows.key_of (rows.target e)) ≡ Some (rows.weight e)
   unfolding edge_at
   edge_present k e m b =
       let t = shows_edge rows k (rows.key_of (rows.source e)) (rows.key_of (rows.target e)) in
@@ -69,7 +74,8 @@ module _ (rows : Rows) (l : Lawful rows) where
       let f = last_below_only t rows.edges e m s (λ f u c. one_edge_row k e f (grind (arith, nat_tests)) (grind (arith, nat_tests)) b (grind (arith, nat_tests))) in
       cc
 
-  pub edge_absent : (k i j : ℕ) → ((e : ℕ) → e < rows.edges → rows.key_of (rows.source e) ≡ i → rows.key_of (rows.target e) ≡ j → edge_lives rows k e ≡ false) → edge_at rows k i j ≡ None
+  pub edge_absent : (k i j : ℕ) →
+      ((e : ℕ) → e < rows.edges → rows.key_of (rows.source e) ≡ i → rows.key_of (rows.target e) ≡ j → edge_lives rows k e ≡ false) → edge_at rows k i j ≡ None
   unfolding edge_at
   edge_absent k i j h =
       let none : (e : ℕ) → e < rows.edges → shows_edge rows k i j e ≡ false = λ e m.
@@ -83,7 +89,8 @@ module _ (rows : Rows) (l : Lawful rows) where
       let f = last_below_none (shows_edge rows k i j) rows.edges none in
       cc
 
-  pub edge_same : (k i j : ℕ) → ((e : ℕ) → rows.key_of (rows.source e) ≡ i → rows.key_of (rows.target e) ≡ j → EdgeStays rows k e) → edge_at rows (suc k) i j ≡ edge_at rows k i j
+  pub edge_same : (k i j : ℕ) → ((e : ℕ) → rows.key_of (rows.source e) ≡ i → rows.key_of (rows.target e) ≡ j → EdgeStays rows k e) →
+      edge_at rows (suc k) i j ≡ edge_at rows k i j
   unfolding edge_at
   edge_same k i j h =
       let same : (e : ℕ) → e < rows.edges → shows_edge rows (suc k) i j e ≡ shows_edge rows k i j e = λ e m.

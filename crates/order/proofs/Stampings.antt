@@ -5,7 +5,7 @@ use Rattle.codes.specs.declared.answer.Answer.{Answer}
 use Rattle.order.specs.Graph.{Feed, is_change}
 use Rattle.order.specs.Order.{Stamping, changes, raises, neither, stamping_as, StampOrder}
 use Rattle.order.specs.Keys.{Key, Bounded, number}
-use Rattle.order.specs.Marks.{Mark, Marks, moved_part, Sound}
+use Rattle.order.specs.Marks.{Mark, Marks, edge_key, Sound}
 use Rattle.order.specs.Finds.{RowChange, no_change, Finds}
 use Rattle.order.specs.Finds.{adds_vertex, removes_vertex, adds_edge, removes_edge, finds_vertex, finds_no_vertex, finds_edge, takes_snapshot, reaches, reaches_none, ends_spent}
 use Rattle.order.proofs.Keys.{compared}
@@ -17,7 +17,8 @@ StampingAt clock bound k (changes n) = (k.stamp ≡ n) × (k.part ≤ bound)
 StampingAt clock bound k (raises t) = (k.stamp ≡ t) × (k.part ≡ bound) × (clock (suc k.time) ≡ suc t)
 StampingAt clock bound k neither = Unit {0}
 
-module _ (clock : ℕ → ℕ) (rises : (s t : ℕ) → s ≤ t → clock s ≤ clock t) (bound : ℕ) (k l : Key) (bounded_k : Bounded bound k) (bounded_l : Bounded bound l) (less : number bound k < number bound l) where
+module _ (clock : ℕ → ℕ) (rises : (s t : ℕ) → s ≤ t → clock s ≤ clock t) (bound : ℕ)
+    (k l : Key) (bounded_k : Bounded bound k) (bounded_l : Bounded bound l) (less : number bound k < number bound l) where
   -- after a raise from t the clock is greater than t
   after_raise : (t : ℕ) → StampingAt clock bound k (raises t) → clock l.time ≤ l.stamp → l.part ≤ bound → suc t ≤ l.stamp
   after_raise t d fair part = elim (cases_lt k.time l.time) [
@@ -35,15 +36,15 @@ module _ (clock : ℕ → ℕ) (rises : (s t : ℕ) → s ≤ t → clock s ≤ 
   stampings_in_order neither e fair d f = tt
 
 module _ (bound top : ℕ) (m : Marks) (s : Sound bound top m) (k : Key) where
-  moved_part_le : (d f x : Mark) → x.time < bound → moved_part bound d f x ≤ bound
-  moved_part_le d f x l = omega (arith, moved_part_is bound d f x)
+  edge_part : (e : ℕ) (x : Mark) → x.time < bound → (edge_key bound m e x).part ≤ bound
+  edge_part e x l = omega (arith, moved_part_is bound (m.vertex_del (m.source e)) (m.vertex_del (m.target e)) x)
 
   -- a call that changes the graph stands at the key of its change
   pub change_at : (f : Feed) (v : RowChange) (a : Answer) → Finds bound top m k f v a → is_change a ≡ true → (v ≢ no_change) × (k.part ≤ bound)
   change_at f v a (adds_vertex r h) e = (λ z. grind arith, rw h.key (omega arith))
   change_at f v a (removes_vertex r h) e = (λ z. grind arith, rw h.key (omega arith))
-  change_at f v a (adds_edge x h) e = (λ z. grind arith, rw h.key (moved_part_le (m.vertex_del (m.source x)) (m.vertex_del (m.target x)) (m.edge_ins x) (s.edge_ins x)))
-  change_at f v a (removes_edge x weight h) e = (λ z. grind arith, rw h.key (moved_part_le (m.vertex_del (m.source x)) (m.vertex_del (m.target x)) (m.edge_del x) (s.edge_del x)))
+  change_at f v a (adds_edge x h) e = (λ z. grind arith, rw h.key (edge_part x (m.edge_ins x) (s.edge_ins x)))
+  change_at f v a (removes_edge x weight h) e = (λ z. grind arith, rw h.key (edge_part x (m.edge_del x) (s.edge_del x)))
   change_at f v a (finds_vertex o i there h n) e = absurd (grind arith)
   change_at f v a (finds_no_vertex o p h) e = absurd (grind arith)
   change_at f v a (finds_edge o p r t there h l i n) e = absurd (grind arith)

@@ -30,10 +30,12 @@ after_still g f a e h = cc
 abbrev pub Does : Rows → ℕ → Feed → Answer → Type 0
 Does rows k f a = (answer_to (graph_at rows k) f ≡ a) × (graph_at rows (suc k) ≡ after (graph_at rows k) f)
 
-does_change : (rows : Rows) (k : ℕ) (f : Feed) (a : Answer) → is_change a ≡ true → answer_to (graph_at rows k) f ≡ a → graph_at rows (suc k) ≡ changed (graph_at rows k) f → Does rows k f a
+does_change : (rows : Rows) (k : ℕ) (f : Feed) (a : Answer) → is_change a ≡ true → answer_to (graph_at rows k) f ≡ a →
+    graph_at rows (suc k) ≡ changed (graph_at rows k) f → Does rows k f a
 does_change rows k f a h e g = (e, g ∙ sym (after_changed (graph_at rows k) f a e h))
 
-does_nothing : (rows : Rows) (k : ℕ) (f : Feed) (a : Answer) → is_change a ≡ false → answer_to (graph_at rows k) f ≡ a → graph_at rows (suc k) ≡ graph_at rows k → Does rows k f a
+does_nothing : (rows : Rows) (k : ℕ) (f : Feed) (a : Answer) → is_change a ≡ false → answer_to (graph_at rows k) f ≡ a →
+    graph_at rows (suc k) ≡ graph_at rows k → Does rows k f a
 does_nothing rows k f a h e g = (e, g ∙ sym (after_still (graph_at rows k) f a e h))
 
 module _ (bound top : ℕ) (m : Marks) (s : Sound bound top m) (c : Key) (bounded : Bounded bound c) (k : ℕ) (at : number bound c ≡ suc k) where
@@ -61,15 +63,18 @@ module _ (bound top : ℕ) (m : Marks) (s : Sound bound top m) (c : Key) (bounde
 
   does_add_edge : (e : ℕ) → EdgeBirth bound top m c e → Only rows k (edge_born e) → Does rows k (asks (call.Edge Add (pair_of m e (m.weight e)))) EdgeAdded
   does_add_edge e v o =
-      let born : rows.edge_born e ≡ suc k = edge_number_effect bound top (unborn top) _ _ (m.edge_ins e) v.effect ∙ number_at (edge_key bound m e (m.edge_ins e)) v.key in
+      let effect = edge_number_effect bound top (unborn top) _ _ (m.edge_ins e) v.effect in
+      let born : rows.edge_born e ≡ suc k = effect ∙ number_at (edge_key bound m e (m.edge_ins e)) v.key in
       let lives = edge_life bound top m s e (suc k) v.effect born in
       let (absent, graph) = edge_added rows laws k e o v.row born lives in
       let (from, to) = vertices_present rows laws k e v.source v.target (grind (arith, nat_tests)) (grind (arith, nat_tests)) (grind (arith, nat_tests)) in
       does_change rows k (asks (call.Edge Add (pair_of m e (m.weight e)))) EdgeAdded refl (rw (from, to, absent) refl) graph
 
-  does_remove_edge : (e weight : ℕ) → EdgeEnd bound top m c e → Only rows k (edge_ends e) → Does rows k (asks (call.Edge Remove (pair_of m e weight))) EdgeRemoved
+  does_remove_edge : (e weight : ℕ) → EdgeEnd bound top m c e → Only rows k (edge_ends e) →
+      Does rows k (asks (call.Edge Remove (pair_of m e weight))) EdgeRemoved
   does_remove_edge e weight v o =
-      let ends : rows.edge_ends e ≡ suc k = edge_number_effect bound top (suc top) _ _ (m.edge_del e) v.effect ∙ number_at (edge_key bound m e (m.edge_del e)) v.key in
+      let effect = edge_number_effect bound top (suc top) _ _ (m.edge_del e) v.effect in
+      let ends : rows.edge_ends e ≡ suc k = effect ∙ number_at (edge_key bound m e (m.edge_del e)) v.key in
       let lives = edge_end bound top m s e k v.stamped v.effect ends in
       let (present, graph) = edge_removed rows laws k e o v.row ends lives in
       let (from, to) = vertices_present rows laws k e v.source v.target (grind (arith, nat_tests)) (grind (arith, nat_tests)) (grind (arith, nat_tests)) in

@@ -34,7 +34,8 @@ pub record Placed (h : Past) : Type 0 where
   -- the graph just before its key gives a finished call its answer and its page
   pub explained : (b k : ℕ) → key b ≡ Some (suc k) → Explained h (next_key graph b k)
   -- changes and raises have keys by their stamps
-  pub stamps : (b c k l : ℕ) → key b ≡ Some (suc k) → key c ≡ Some (suc l) → k < l → StampOrder (stamping h (next_key graph b k)) (stamping h (next_key graph c l))
+  pub stamps : (b c k l : ℕ) → key b ≡ Some (suc k) → key c ≡ Some (suc l) → k < l →
+      StampOrder (stamping h (next_key graph b k)) (stamping h (next_key graph c l))
 
 -- calls that are placed have one order that explains them
 abbrev pub PlacedStands : Type 0
