@@ -11,3 +11,4 @@ mod Replay
 mod Numbered
 mod Owners
 mod Marked
+mod Worked

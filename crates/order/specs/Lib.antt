@@ -7,3 +7,4 @@ pub mod Marks
 pub mod Rows
 pub mod Finds
 pub mod Marked
+pub mod Worked

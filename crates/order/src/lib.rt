@@ -3,18 +3,24 @@
 
 ghost use Rattle.order.specs.Marked.{FreshStands, MarkedStands};
 ghost use Rattle.order.specs.Placed.{PlacedStands};
+ghost use Rattle.order.specs.Worked.{Worked};
 
-// Calls that keys place have one order that explains what the run shows of them.
+// Calls that keys place have one order, which explains what the run shows of them.
 pub fn placed_calls_have_one_order()
     ensures { PlacedStands }
 {}
 
-// So do the calls of a run that owes nothing more: from the graph at its start on.
+// Calls whose run gives what it owes have one, from the graph at the start of the run on.
 pub fn marked_calls_have_one_order()
     ensures { MarkedStands }
 {}
 
-// Where the run starts with no rows, that is the empty graph.
+// Where the run starts with no rows, that graph is empty.
 pub fn fresh_calls_have_one_order()
     ensures { FreshStands }
+{}
+
+// An order can be had, and not every past has one.
+pub fn worked_case_stands()
+    ensures { Worked }
 {}
