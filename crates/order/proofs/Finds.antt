@@ -1,9 +1,9 @@
 -- What the marks say of a key holds of the graph just before it.
-use Rattle.std.proofs.Common.{◌≡◌, ℕ, suc, ◌<◌, ◌≤◌, Bool, true, false, Some, is_some, ◌⊎◌, ap, subst, subst₂, inl, inr, arith}
+use Rattle.std.proofs.Common.{◌≡◌, ℕ, suc, ◌<◌, ◌≤◌, Bool, true, false, Some, is_some, ◌⊎◌, sym, ap, subst, subst₂, inl, inr, arith}
 use Rattle.std.proofs.lemmas.Bool.{cases_Bool}
 use Rattle.std.proofs.lemmas.Bool.Decides.{nat_tests}
 use Rattle.order.specs.Keys.{Key, Bounded, number}
-use Rattle.order.specs.Marks.{Mark, Marks, change_key, moved_key, has_effect, Sound}
+use Rattle.order.specs.Marks.{source_end, target_end, Mark, Marks, change_key, moved_key, has_effect, Sound}
 use Rattle.order.specs.Rows.{Rows, edge_lives, has_at, edge_at, far_key, unborn, edge_number, rows_of}
 use Rattle.order.specs.Finds.{mark_of, Before, After, VertexThere, EdgeThere, VertexFound, EdgeFound}
 use Rattle.order.proofs.Keys.{compared, number_by_stamp, number_by_time}
@@ -47,10 +47,10 @@ module _ (bound top : ℕ) (m : Marks) (s : Sound bound top m) (c : Key) (bounde
   vertex_born_by : (r : ℕ) → Before bound c (m.vertex_ins r) → rows.vertex_born r ≤ k
   vertex_born_by r h = omega (arith, change_before bound top c bounded (m.vertex_ins r) (s.vertex_ins r) h)
 
-  vertex_born_late : (r : ℕ) → After c (m.vertex_ins r) → k < rows.vertex_born r
+  pub vertex_born_late : (r : ℕ) → After c (m.vertex_ins r) → k < rows.vertex_born r
   vertex_born_late r h = omega (arith, change_after bound top c bounded (m.vertex_ins r) (s.vertex_ins r) h)
 
-  vertex_ends_by : (r : ℕ) → Before bound c (m.vertex_del r) → rows.vertex_ends r ≤ k
+  pub vertex_ends_by : (r : ℕ) → Before bound c (m.vertex_del r) → rows.vertex_ends r ≤ k
   vertex_ends_by r h = omega (arith, change_before bound top c bounded (m.vertex_del r) (s.vertex_del r) h)
 
   vertex_ends_late : (r : ℕ) → After c (m.vertex_del r) → k < rows.vertex_ends r
@@ -64,10 +64,10 @@ module _ (bound top : ℕ) (m : Marks) (s : Sound bound top m) (c : Key) (bounde
   vertex_found i false h = vertex_absent rows laws k i (λ r l q. elim (h r q) [ inl f ↦ inl (vertex_born_late r f) | inr f ↦ inr (vertex_ends_by r f) ])
 
   -- an edge row that is there, and whose vertex rows end later
-  edge_there : (e : ℕ) → EdgeThere bound m c e → After c (m.vertex_del (m.source e)) → After c (m.vertex_del (m.target e)) → c.stamp ≤ top →
+  pub edge_there : (e : ℕ) → EdgeThere bound m c e → After c (source_end m e) → After c (target_end m e) → c.stamp ≤ top →
       edge_at rows k (m.key_of (m.source e)) (m.key_of (m.target e)) ≡ Some (m.weight e)
   edge_there e t a b l =
-      let d = m.vertex_del (m.source e) in let f = m.vertex_del (m.target e) in let x = m.edge_ins e in
+      let d = source_end m e in let f = target_end m e in let x = m.edge_ins e in
       let born : Before bound c x = t.born in
       let effect : has_effect top d f x ≡ true = grind (arith, nat_tests) in
       let birth = edge_number_effect bound top (unborn top) d f x effect in
@@ -77,14 +77,14 @@ module _ (bound top : ℕ) (m : Marks) (s : Sound bound top m) (c : Key) (bounde
       edge_present rows laws k e t.row (grind (arith, nat_tests))
 
   -- an edge row that is not born yet, or has ended
-  edge_not_there : (e : ℕ) → c.stamp ≤ top → After c (m.vertex_del (m.source e)) → After c (m.vertex_del (m.target e)) →
+  pub edge_not_there : (e : ℕ) → c.stamp ≤ top → After c (source_end m e) → After c (target_end m e) →
       After c (m.edge_ins e) ⊎ Before bound c (m.edge_del e) → edge_lives rows k e ≡ false
   edge_not_there e l a b (inl h) =
-      let d = m.vertex_del (m.source e) in let f = m.vertex_del (m.target e) in
+      let d = source_end m e in let f = target_end m e in
       let birth = edge_after bound top c bounded (unborn top) d f (m.edge_ins e) (omega arith) h a b l in
       grind (arith, nat_tests)
   edge_not_there e l a b (inr h) =
-      let d = m.vertex_del (m.source e) in let f = m.vertex_del (m.target e) in
+      let d = source_end m e in let f = target_end m e in
       let effect : has_effect top d f (m.edge_del e) ≡ true = grind (arith, nat_tests) in
       let ends = edge_number_effect bound top (suc top) d f (m.edge_del e) effect in
       let low = moved_before bound top c bounded d f (m.edge_del e) (s.edge_del e) h in
@@ -101,12 +101,15 @@ module _ (bound top : ℕ) (m : Marks) (s : Sound bound top m) (c : Key) (bounde
         one_vertex_row rows laws k (m.key_of t) t (m.target e) (grind (arith, nat_tests)) (grind (arith, nat_tests)),
       )
 
+  ends_later : {q r : ℕ} → q ≡ r → After c (m.vertex_del r) → After c (m.vertex_del q)
+  ends_later e h = subst (λ i. After c (m.vertex_del i)) (sym e) h
+
   pub edge_found : (r t : ℕ) (there : Bool) → VertexThere bound m c r → VertexThere bound m c t → c.stamp ≤ top → EdgeFound bound m c r t there →
       is_some (edge_at rows k (m.key_of r) (m.key_of t)) ≡ there
   edge_found r t true a b l (e, h, p, q) =
-      let found = edge_there e h (rw p a.ends) (rw q b.ends) l in
+      let found = edge_there e h (ends_later p a.ends) (ends_later q b.ends) l in
       subst₂ (λ r t. is_some (edge_at rows k (m.key_of r) (m.key_of t)) ≡ true) p q (ap is_some found)
   edge_found r t false a b l h = ap is_some (edge_absent rows laws k (m.key_of r) (m.key_of t) (λ e i f g. elim (cases_Bool (edge_lives rows k e)) [
     | inr z ↦ z
-    | inl z ↦ (let (p, q) = bound_to e r t a b f g z in edge_not_there e l (rw p a.ends) (rw q b.ends) (h e p q))
+    | inl z ↦ (let (p, q) = bound_to e r t a b f g z in edge_not_there e l (ends_later p a.ends) (ends_later q b.ends) (h e p q))
   ]))

@@ -23,3 +23,12 @@ last_below_only t (suc n) r l b only = elim (cases_Bool (t n)) [
   | inl c ↦ (let q = only n (omega arith) c in cc)
   | inr c ↦ (let e = last_below_only t n r (grind arith) b (λ s k. only s (omega arith)) in cc)
 ]
+
+-- the number that is found passes the test
+pub last_below_passes : (t : ℕ → Bool) (n r : ℕ) → last_below t n ≡ Some r → (r < n) × (t r ≡ true)
+unfolding last_below
+last_below_passes t zero r e = absurd (grind arith)
+last_below_passes t (suc n) r e = elim (cases_Bool (t n)) [
+  | inl b ↦ (let q : n ≡ r = cc in (omega arith, rw (← q) b))
+  | inr b ↦ (let (l, p) = last_below_passes t n r (cc) in (omega arith, p))
+]

@@ -11,4 +11,5 @@ mod Replay
 mod Numbered
 mod Owners
 mod Marked
+mod Raises
 mod Worked

@@ -1,9 +1,9 @@
 -- The lives that marks give to rows keep the laws of rows, and a row is there from its birth to its end.
-use Rattle.std.proofs.Common.{◌≡◌, ℕ, suc, ◌<◌, ◌≤◌, true, false, sym, inl, inr, arith}
+use Rattle.std.proofs.Common.{◌≡◌, ℕ, suc, ◌<◌, ◌≤◌, true, false, sym, subst₂, inl, inr, arith}
 use Rattle.std.proofs.lemmas.Bool.{cases_Bool}
 use Rattle.std.proofs.lemmas.Bool.Decides.{nat_tests}
 use Rattle.order.specs.Keys.{Bounded, number}
-use Rattle.order.specs.Marks.{Mark, Earlier, Distinct, Marks, change_key, moved_key, has_effect, edge_effect, Sound}
+use Rattle.order.specs.Marks.{Mark, Earlier, Distinct, Marks, source_end, target_end, change_key, moved_key, has_effect, edge_effect, Sound}
 use Rattle.order.specs.Rows.{Rows, edge_lives, far_key, unborn, edge_number, rows_of}
 use Rattle.order.proofs.Keys.{number_by_stamp}
 use Rattle.order.proofs.Rows.{Lawful}
@@ -72,18 +72,11 @@ module _ (bound top : ℕ) (m : Marks) (s : Sound bound top m) where
   abbrev rows : Rows
   rows = rows_of bound top m
 
-  -- of the vertices of an edge row
-  abbrev source_end : ℕ → Mark
-  source_end e = m.vertex_del (m.source e)
-
-  abbrev target_end : ℕ → Mark
-  target_end e = m.vertex_del (m.target e)
-
   edges_apart : (e f : ℕ) → m.source e ≡ m.source f → m.target e ≡ m.target f → Earlier (m.edge_del e) (m.edge_ins f) → rows.edge_ends e ≤ rows.edge_born f
   edges_apart e f p q h =
-      let less = edge_ends_before_born bound top (source_end e) (target_end e) (m.edge_del e) (m.edge_ins f) (s.edge_del e) (s.edge_ins f) h
+      let less = edge_ends_before_born bound top (source_end m e) (target_end m e) (m.edge_del e) (m.edge_ins f) (s.edge_del e) (s.edge_ins f) h
       (s.del_distinct e (m.source e)) (s.del_distinct e (m.target e)) in
-      rw (← p, ← q) (omega (arith, less))
+      subst₂ (λ r t. rows.edge_ends e ≤ edge_number bound top (unborn top) (m.vertex_del r) (m.vertex_del t) (m.edge_ins f)) p q (omega (arith, less))
 
   pub lawful : Lawful rows
   lawful = record {
@@ -93,10 +86,10 @@ module _ (bound top : ℕ) (m : Marks) (s : Sound bound top m) where
     ];
     edge_apart = λ e f p q n. elim (s.edge_apart e f p q n) [ inl h ↦ inl (edges_apart e f p q h) | inr h ↦ inr (edges_apart f e (sym p) (sym q) h) ];
     after_source = λ e. (let r = m.source e in
-        vertex_born_before_edge bound top (m.vertex_ins r) (source_end e) (target_end e) (m.edge_ins e) (s.vertex_ins r) (s.births r)
+        vertex_born_before_edge bound top (m.vertex_ins r) (source_end m e) (target_end m e) (m.edge_ins e) (s.vertex_ins r) (s.births r)
         (λ h. (s.source_first e h, s.vertex_order r (omega (arith, s.source_first e h)), s.source_meets e h)));
     after_target = λ e. (let r = m.target e in
-        vertex_born_before_edge bound top (m.vertex_ins r) (source_end e) (target_end e) (m.edge_ins e) (s.vertex_ins r) (s.births r)
+        vertex_born_before_edge bound top (m.vertex_ins r) (source_end m e) (target_end m e) (m.edge_ins e) (s.vertex_ins r) (s.births r)
         (λ h. (s.target_first e h, s.target_meets e h, s.vertex_order r (omega (arith, s.target_first e h)))));
   }
 
@@ -107,7 +100,7 @@ module _ (bound top : ℕ) (m : Marks) (s : Sound bound top m) where
   -- an edge row whose birth has an effect is there at the key of its birth
   pub edge_life : (e k : ℕ) → edge_effect top m e (m.edge_ins e) ≡ true → rows.edge_born e ≡ k → edge_lives rows k e ≡ true
   edge_life e k h q =
-      let d = source_end e in let f = target_end e in let x = m.edge_ins e in
+      let d = source_end m e in let f = target_end m e in let x = m.edge_ins e in
       let (stamped, l, r) = effect_parts bound top d f x h in
       let a = s.ins_distinct e (m.source e) stamped in
       let b = s.ins_distinct e (m.target e) stamped in
@@ -121,7 +114,7 @@ module _ (bound top : ℕ) (m : Marks) (s : Sound bound top m) where
   -- an edge row whose end has an effect is there just before the key of its end
   pub edge_end : (e k : ℕ) → (m.edge_ins e).stamp ≤ top → edge_effect top m e (m.edge_del e) ≡ true → rows.edge_ends e ≡ suc k → edge_lives rows k e ≡ true
   edge_end e k born_stamped h q =
-      let d = source_end e in let f = target_end e in let x = m.edge_ins e in let y = m.edge_del e in
+      let d = source_end m e in let f = target_end m e in let x = m.edge_ins e in let y = m.edge_del e in
       let (stamped, l, r) = effect_parts bound top d f y h in
       let before = s.edge_order e born_stamped in
       let effect : has_effect top d f x ≡ true = grind (arith, nat_tests) in

@@ -8,7 +8,7 @@ use Rattle.order.specs.Past.{Past, fed}
 use Rattle.order.specs.Order.{Explained, stamping, StampOrder, OneOrder}
 use Rattle.order.specs.Placed.{next_key, Placed}
 use Rattle.order.specs.Keys.{Key, number}
-use Rattle.order.specs.Marks.{change_key, moved_key, has_effect}
+use Rattle.order.specs.Marks.{source_end, target_end, change_key, moved_key, has_effect}
 use Rattle.order.specs.Rows.{graph_at, far_key, unborn}
 use Rattle.order.specs.Marked.{Told, Marked, start_key, start_graph, MarkedStands, Fresh, FreshStands}
 use Rattle.order.proofs.Keys.{number_by_stamp}
@@ -85,7 +85,7 @@ module _ {h : Past} (p : Marked h) where
           | inr (b, e, _) ↦ after_start p b (change_key p.bound x) e
         ]
       ]))
-      (λ e. (let d = p.marks.vertex_del (p.marks.source e) in let f = p.marks.vertex_del (p.marks.target e) in let x = p.marks.edge_ins e in
+      (λ e. (let d = source_end p.marks e in let f = target_end p.marks e in let x = p.marks.edge_ins e in
       elim (cases_Bool (has_effect p.top d f x)) [
         | inr z ↦ rw (edge_number_far p.bound p.top (unborn p.top) d f x z)
             (number_by_stamp p.bound (start_key p) (far_key p.bound (unborn p.top)) (bounded_start p) (omega (arith, p.start_stamp)))

@@ -3,7 +3,7 @@ use Rattle.std.proofs.Common.{◌≡◌, ℕ, suc, ◌+◌, ◌<◌, ◌≤◌, 
 use Rattle.std.proofs.lemmas.Bool.{cases_Bool}
 use Rattle.order.specs.Past.{Past}
 use Rattle.order.specs.Keys.{Key, Bounded, number}
-use Rattle.order.specs.Marks.{Mark, change_key, moved_key, has_effect}
+use Rattle.order.specs.Marks.{source_end, target_end, Mark, change_key, moved_key, has_effect}
 use Rattle.order.specs.Rows.{far_key, unborn, edge_number}
 use Rattle.order.specs.Finds.{RowChange, no_change, vertex_born, vertex_ends, edge_born, edge_ends}
 use Rattle.order.specs.Marked.{Old, Made, Marked, start_key}
@@ -62,12 +62,12 @@ module _ {h : Past} (p : Marked h) where
 
     edge_birth_owned : (e : ℕ) → (rows p).edge_born e ≡ suc n → Owned n (edge_born e)
     edge_birth_owned e q =
-        edge_owned (unborn p.top) (p.marks.vertex_del (p.marks.source e)) (p.marks.vertex_del (p.marks.target e)) (p.marks.edge_ins e) (edge_born e)
+        edge_owned (unborn p.top) (source_end p.marks e) (target_end p.marks e) (p.marks.edge_ins e) (edge_born e)
         (omega arith) (p.sound.edge_ins e) q (p.edge_births e)
 
     edge_end_owned : (e : ℕ) → (rows p).edge_ends e ≡ suc n → Owned n (edge_ends e)
     edge_end_owned e q =
-        edge_owned (suc p.top) (p.marks.vertex_del (p.marks.source e)) (p.marks.vertex_del (p.marks.target e)) (p.marks.edge_del e) (edge_ends e)
+        edge_owned (suc p.top) (source_end p.marks e) (target_end p.marks e) (p.marks.edge_del e) (edge_ends e)
         (omega arith) (p.sound.edge_del e) q (p.edge_endings e)
 
     -- where a call has the key after n, nothing but its own change happens there

@@ -1,9 +1,9 @@
 -- Which rows are there at a key, and what the graph at a key shows of them.
-use Rattle.std.proofs.Common.{◌≡◌, ℕ, suc, ◌<◌, ◌≤◌, true, false, Some, None, ◌≢◌, ◌⊎◌, sym, inl, inr, arith}
+use Rattle.std.proofs.Common.{◌≡◌, ℕ, suc, ◌<◌, ◌≤◌, true, false, Some, None, Option, is_some, ◌≢◌, ◌⊎◌, refl, sym, inl, inr, arith}
 use Rattle.std.proofs.lemmas.Bool.{cases_eq}
 use Rattle.std.proofs.lemmas.Bool.Decides.{nat_tests}
-use Rattle.order.specs.Rows.{Rows, edge_lives, shows_vertex, shows_edge, has_at, edge_at}
-use Rattle.order.proofs.LastBelow.{last_below_same, last_below_none, last_below_only}
+use Rattle.order.specs.Rows.{Rows, edge_lives, shows_vertex, shows_edge, weight_of, has_at, edge_at, last_below}
+use Rattle.order.proofs.LastBelow.{last_below_same, last_below_none, last_below_only, last_below_passes}
 
 -- of two rows of a key, or two edge rows bound alike, one has ended when the other is born; an edge row is born after its vertex rows
 pub record Lawful (rows : Rows) : Type 0 where
@@ -17,6 +17,25 @@ pub record Lawful (rows : Rows) : Type 0 where
 abbrev pub EdgeStays : Rows → ℕ → ℕ → Type 0
 EdgeStays rows k e =
     (rows.edge_born e ≢ suc k) × (rows.edge_ends e ≢ suc k) × (rows.vertex_ends (rows.source e) ≢ suc k) × (rows.vertex_ends (rows.target e) ≢ suc k)
+
+module _ (rows : Rows) (k : ℕ) where
+  -- the row that shows a vertex, and the one that shows an edge
+  pub vertex_row : (i : ℕ) → has_at rows k i ≡ true → (r : ℕ) × (r < rows.vertices) × (shows_vertex rows k i r ≡ true)
+  unfolding has_at
+  vertex_row i h = go (last_below (shows_vertex rows k i) rows.vertices) refl h
+    where
+      go : (o : Option ℕ) → last_below (shows_vertex rows k i) rows.vertices ≡ o → is_some o ≡ true → (r : ℕ) × (r < rows.vertices) × (shows_vertex rows k i r ≡ true)
+      go None e h = absurd (grind arith)
+      go (Some r) e h = let (l, p) = last_below_passes (shows_vertex rows k i) rows.vertices r e in (r, l, p)
+
+  pub edge_row : (i j x : ℕ) → edge_at rows k i j ≡ Some x → (e : ℕ) × (e < rows.edges) × (shows_edge rows k i j e ≡ true) × (rows.weight e ≡ x)
+  unfolding edge_at
+  edge_row i j x h = go (last_below (shows_edge rows k i j) rows.edges) refl h
+    where
+      go : (o : Option ℕ) → last_below (shows_edge rows k i j) rows.edges ≡ o → weight_of rows k o ≡ Some x →
+          (e : ℕ) × (e < rows.edges) × (shows_edge rows k i j e ≡ true) × (rows.weight e ≡ x)
+      go None q h = absurd (grind arith)
+      go (Some e) q h = let (l, p) = last_below_passes (shows_edge rows k i j) rows.edges e q in (e, l, p, cc)
 
 module _ (rows : Rows) (l : Lawful rows) where
   -- of one key at most one row is there

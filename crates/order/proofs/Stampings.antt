@@ -5,7 +5,7 @@ use Rattle.codes.specs.declared.answer.Answer.{Answer}
 use Rattle.order.specs.Graph.{Feed, is_change}
 use Rattle.order.specs.Order.{Stamping, changes, raises, neither, stamping_as, StampOrder}
 use Rattle.order.specs.Keys.{Key, Bounded, number}
-use Rattle.order.specs.Marks.{Mark, Marks, edge_key, Sound}
+use Rattle.order.specs.Marks.{Mark, Marks, source_end, target_end, edge_key, Sound}
 use Rattle.order.specs.Finds.{RowChange, no_change, Finds}
 use Rattle.order.specs.Finds.{adds_vertex, removes_vertex, adds_edge, removes_edge, finds_vertex, finds_no_vertex, finds_edge, takes_snapshot, reaches, reaches_none, ends_spent}
 use Rattle.order.proofs.Keys.{compared}
@@ -37,7 +37,7 @@ module _ (clock : ℕ → ℕ) (rises : (s t : ℕ) → s ≤ t → clock s ≤ 
 
 module _ (bound top : ℕ) (m : Marks) (s : Sound bound top m) (k : Key) where
   edge_part : (e : ℕ) (x : Mark) → x.time < bound → (edge_key bound m e x).part ≤ bound
-  edge_part e x l = omega (arith, moved_part_is bound (m.vertex_del (m.source e)) (m.vertex_del (m.target e)) x)
+  edge_part e x l = omega (arith, moved_part_is bound (source_end m e) (target_end m e) x)
 
   -- a call that changes the graph stands at the key of its change
   pub change_at : (f : Feed) (v : RowChange) (a : Answer) → Finds bound top m k f v a → is_change a ≡ true → (v ≢ no_change) × (k.part ≤ bound)

@@ -79,16 +79,12 @@ module _ (bound top : ℕ) (m : Marks) (k : Key) where
   -- edge row e is born, with an effect
   pub record EdgeBirth (e : ℕ) : Type 0 where
     pub row : e < m.edges
-    pub source : m.source e < m.vertices
-    pub target : m.target e < m.vertices
     pub effect : edge_effect top m e (m.edge_ins e) ≡ true
     pub key : k ≡ edge_key bound m e (m.edge_ins e)
 
   -- edge row e ends, with an effect
   pub record EdgeEnd (e : ℕ) : Type 0 where
     pub row : e < m.edges
-    pub source : m.source e < m.vertices
-    pub target : m.target e < m.vertices
     pub stamped : (m.edge_ins e).stamp ≤ top
     pub effect : edge_effect top m e (m.edge_del e) ≡ true
     pub key : k ≡ edge_key bound m e (m.edge_del e)

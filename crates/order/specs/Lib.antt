@@ -7,4 +7,5 @@ pub mod Marks
 pub mod Rows
 pub mod Finds
 pub mod Marked
+pub mod Raises
 pub mod Worked

@@ -31,6 +31,13 @@ pub record Marks : Type 0 where
   pub edge_ins : ℕ → Mark
   pub edge_del : ℕ → Mark
 
+-- the ends of the two vertex rows of an edge row
+abbrev pub source_end : Marks → ℕ → Mark
+source_end m e = m.vertex_del (m.source e)
+
+abbrev pub target_end : Marks → ℕ → Mark
+target_end m e = m.vertex_del (m.target e)
+
 -- the key of a change of a vertex: its stamp, and the time at which it became pending
 abbrev pub change_key : ℕ → Mark → Key
 change_key bound x = record { stamp = x.stamp; time = x.time; part = bound }
@@ -57,10 +64,10 @@ has_effect top d f x = nat_le x.stamp top && (nat_le x.stamp d.stamp && nat_le x
 
 -- the same for the change x of the edge row e
 abbrev pub edge_effect : ℕ → Marks → ℕ → Mark → Bool
-edge_effect top m e x = has_effect top (m.vertex_del (m.source e)) (m.vertex_del (m.target e)) x
+edge_effect top m e x = has_effect top (source_end m e) (target_end m e) x
 
 abbrev pub edge_key : ℕ → Marks → ℕ → Mark → Key
-edge_key bound m e x = moved_key bound (m.vertex_del (m.source e)) (m.vertex_del (m.target e)) x
+edge_key bound m e x = moved_key bound (source_end m e) (target_end m e) x
 
 -- what every run keeps of its marks
 pub record Sound (bound top : ℕ) (m : Marks) : Type 0 where
@@ -79,12 +86,15 @@ pub record Sound (bound top : ℕ) (m : Marks) : Type 0 where
   -- so does one of two edge rows that are bound to the same vertex rows
   pub edge_apart : (e f : ℕ) → m.source e ≡ m.source f → m.target e ≡ m.target f → e ≢ f →
       Earlier (m.edge_del e) (m.edge_ins f) ⊎ Earlier (m.edge_del f) (m.edge_ins e)
-  -- an edge row is born after its vertex rows
+  -- an edge row that is born is bound to vertex rows
+  pub source_row : (e : ℕ) → (m.edge_ins e).stamp ≤ top → m.source e < m.vertices
+  pub target_row : (e : ℕ) → (m.edge_ins e).stamp ≤ top → m.target e < m.vertices
+  -- it is born after them
   pub source_first : (e : ℕ) → (m.edge_ins e).stamp ≤ top → Earlier (m.vertex_ins (m.source e)) (m.edge_ins e)
   pub target_first : (e : ℕ) → (m.edge_ins e).stamp ≤ top → Earlier (m.vertex_ins (m.target e)) (m.edge_ins e)
   -- each of its vertex rows is born before the other ends
-  pub source_meets : (e : ℕ) → (m.edge_ins e).stamp ≤ top → Earlier (m.vertex_ins (m.source e)) (m.vertex_del (m.target e))
-  pub target_meets : (e : ℕ) → (m.edge_ins e).stamp ≤ top → Earlier (m.vertex_ins (m.target e)) (m.vertex_del (m.source e))
+  pub source_meets : (e : ℕ) → (m.edge_ins e).stamp ≤ top → Earlier (m.vertex_ins (m.source e)) (target_end m e)
+  pub target_meets : (e : ℕ) → (m.edge_ins e).stamp ≤ top → Earlier (m.vertex_ins (m.target e)) (source_end m e)
   -- no edge change became pending at the time of the end of a vertex with the same stamp
   pub ins_distinct : (e r : ℕ) → (m.edge_ins e).stamp ≤ top → Distinct (m.vertex_del r) (m.edge_ins e)
   pub del_distinct : (e r : ℕ) → (m.edge_del e).stamp ≤ top → Distinct (m.vertex_del r) (m.edge_del e)

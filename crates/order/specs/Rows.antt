@@ -2,7 +2,7 @@
 use Rattle.std.specs.Prelude.{ℕ, zero, suc, Bool, cond, ◌&&◌, Some, None, Option, is_some, ◌==◌, nat_le, nat_lt}
 use Rattle.questions.specs.Graph.{Graph}
 use Rattle.order.specs.Keys.{Key, number}
-use Rattle.order.specs.Marks.{Mark, Marks, change_key, has_effect, moved_key}
+use Rattle.order.specs.Marks.{Mark, Marks, source_end, target_end, change_key, has_effect, moved_key}
 
 -- a row is there from the key at which it is born to just before the key at which it ends; what has not happened stands at a key above those
 -- of all calls
@@ -80,6 +80,6 @@ module _ (bound top : ℕ) where
     source = m.source;
     target = m.target;
     weight = m.weight;
-    edge_born = λ e. edge_number (unborn top) (m.vertex_del (m.source e)) (m.vertex_del (m.target e)) (m.edge_ins e);
-    edge_ends = λ e. edge_number (suc top) (m.vertex_del (m.source e)) (m.vertex_del (m.target e)) (m.edge_del e);
+    edge_born = λ e. edge_number (unborn top) (source_end m e) (target_end m e) (m.edge_ins e);
+    edge_ends = λ e. edge_number (suc top) (source_end m e) (target_end m e) (m.edge_del e);
   }

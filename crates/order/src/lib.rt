@@ -3,6 +3,7 @@
 
 ghost use Rattle.order.specs.Marked.{FreshStands, MarkedStands};
 ghost use Rattle.order.specs.Placed.{PlacedStands};
+ghost use Rattle.order.specs.Raises.{RaisesShowVisible};
 ghost use Rattle.order.specs.Worked.{Worked};
 
 // Calls that keys place have one order, which explains what the run shows of them.
@@ -18,6 +19,11 @@ pub fn marked_calls_have_one_order()
 // Where the run starts with no rows, that graph is empty.
 pub fn fresh_calls_have_one_order()
     ensures { FreshStands }
+{}
+
+// The graph just before a raise of the clock is that of the rows which a snapshot or reach has to show.
+pub fn raises_show_visible_rows()
+    ensures { RaisesShowVisible }
 {}
 
 // An order can be had, and not every past has one.
