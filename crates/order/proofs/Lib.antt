@@ -1,8 +1,8 @@
 mod LastBelow
 mod Rows
 mod Keys
-mod Moves
-mod Lives
+pub mod Moves
+pub mod Lives
 mod Changes
 mod Finds
 mod Steps
@@ -13,3 +13,5 @@ mod Owners
 mod Marked
 mod Raises
 mod Worked
+pub mod Times
+pub mod Pages
