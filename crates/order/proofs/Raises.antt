@@ -18,7 +18,8 @@ suc_pred : (n : ℕ) → 0 < n → n ≡ suc (pred n)
 suc_pred zero l = absurd (omega arith)
 suc_pred (suc n) l = refl
 
-module _ (clock : ℕ → ℕ) (bound top : ℕ) (m : Marks) (s : Sound bound top m) (r t : ℕ) (time : r < bound) (low : t ≤ top) (raise : Raise clock r t) (all : AllSettled clock r top m) where
+module _ (clock : ℕ → ℕ) (bound top : ℕ) (m : Marks) (s : Sound bound top m)
+    (r t : ℕ) (time : r < bound) (low : t ≤ top) (raise : Raise clock r t) (all : AllSettled clock r top m) where
   abbrev key : Key
   key = change_key bound (record { stamp = t; time = r })
 
@@ -67,7 +68,8 @@ module _ (clock : ℕ → ℕ) (bound top : ℕ) (m : Marks) (s : Sound bound to
       let source = ends_later (m.source e) (grind (arith, nat_tests)) in
       let target = ends_later (m.target e) (grind (arith, nat_tests)) in
       let gone = edge_not_there bound top m s key bounded k at e low (after (source_end m e) source) (after (target_end m e) target) in
-      let born : (m.edge_ins e).stamp ≤ t = elim (cases_lt t (m.edge_ins e).stamp) [ inr h ↦ h | inl h ↦ absurd (let z = gone (inl (after (m.edge_ins e) h)) in grind arith) ] in
+      let born : (m.edge_ins e).stamp ≤ t =
+      elim (cases_lt t (m.edge_ins e).stamp) [ inr h ↦ h | inl h ↦ absurd (let z = gone (inl (after (m.edge_ins e) h)) in grind arith) ] in
       let ends : t < (m.edge_del e).stamp =
       elim (cases_lt t (m.edge_del e).stamp) [ inl h ↦ h | inr h ↦ absurd (let z = gone (inr (before (m.edge_del e) (all.edge_del e) h)) in grind arith) ] in
       let laws = lawful bound top m s in

@@ -1,5 +1,5 @@
 -- What a call finds at its key is what the plain graph answers there, and what the plain graph makes of the call is what happens to the rows.
-use Rattle.std.proofs.Common.{◌≡◌, ℕ, suc, ◌≤◌, Bool, true, false, is_some, ◌⊎◌, refl, sym, ◌∙◌, ap, subst₂, inl, inr, arith}
+use Rattle.std.proofs.Common.{◌≡◌, ℕ, suc, ◌<◌, ◌≤◌, Bool, true, false, is_some, ◌⊎◌, refl, sym, ◌∙◌, ap, subst₂, inl, inr, arith}
 use Rattle.std.proofs.lemmas.Bool.Decides.{nat_tests}
 use Rattle.codes.specs.declared.answer.Answer.{Answer}
 use Rattle.codes.specs.declared.answer.Answer.TheVariants.{VertexAdded, VertexRemoved, VertexAbsent, EdgeAdded, EdgeRemoved, SnapshotTaken, ReachTaken}
@@ -12,7 +12,7 @@ use Rattle.questions.specs.Graph.{Graph}
 use Rattle.order.specs.Graph.{Feed, asks, spent, both, joined, vertex_answer, edge_answer, answer_to, is_change, changed, after}
 use Rattle.order.specs.Keys.{Key, Bounded, number}
 use Rattle.order.specs.Marks.{Marks, source_end, target_end, change_key, edge_key, Sound}
-use Rattle.order.specs.Rows.{has_at, Rows, edge_at, graph_at, unborn, rows_of}
+use Rattle.order.specs.Rows.{Rows, has_at, edge_at, graph_at, unborn, rows_of}
 use Rattle.order.specs.Finds.{RowChange, no_change, vertex_born, vertex_ends, edge_born, edge_ends, VertexFound, PairThere, EdgeFound, VertexBirth, VertexEnd, EdgeBirth, EdgeEnd, pair_of, Finds}
 use Rattle.order.specs.Finds.{adds_vertex, removes_vertex, adds_edge, removes_edge, finds_vertex, finds_no_vertex, finds_edge, takes_snapshot, reaches, reaches_none, ends_spent}
 use Rattle.order.proofs.Changes.{Only, graph_still, vertex_added, vertex_removed, vertices_present, edge_added, edge_removed}
@@ -61,6 +61,11 @@ module _ (bound top : ℕ) (m : Marks) (s : Sound bound top m) (c : Key) (bounde
       let (present, graph) = vertex_removed rows laws k r o v.row ends (omega (arith, vertex_life bound top m s r v.stamped)) in
       does_change rows k (asks (call.Vertex Remove (m.key_of r))) VertexRemoved refl (rw present refl) graph
 
+  -- the vertices of an edge row that is born by the next key, where they end later
+  ends_present : (e : ℕ) → (m.edge_ins e).stamp ≤ top → rows.edge_born e ≤ suc k → k < rows.vertex_ends (m.source e) → k < rows.vertex_ends (m.target e) →
+      (has_at rows k (m.key_of (m.source e)) ≡ true) × (has_at rows k (m.key_of (m.target e)) ≡ true)
+  ends_present e stamped = vertices_present rows laws k e (s.source_row e stamped) (s.target_row e stamped)
+
   does_add_edge : (e : ℕ) → EdgeBirth bound top m c e → Only rows k (edge_born e) → Does rows k (asks (call.Edge Add (pair_of m e (m.weight e)))) EdgeAdded
   does_add_edge e v o =
       let effect = edge_number_effect bound top (unborn top) (source_end m e) (target_end m e) (m.edge_ins e) v.effect in
@@ -68,7 +73,7 @@ module _ (bound top : ℕ) (m : Marks) (s : Sound bound top m) (c : Key) (bounde
       let lives = edge_life bound top m s e (suc k) v.effect born in
       let stamped = (effect_parts bound top (source_end m e) (target_end m e) (m.edge_ins e) v.effect).0 in
       let (absent, graph) = edge_added rows laws k e o v.row born lives in
-      let (from, to) = vertices_present rows laws k e (s.source_row e stamped) (s.target_row e stamped) (grind (arith, nat_tests)) (grind (arith, nat_tests)) (grind (arith, nat_tests)) in
+      let (from, to) = ends_present e stamped (grind (arith, nat_tests)) (grind (arith, nat_tests)) (grind (arith, nat_tests)) in
       does_change rows k (asks (call.Edge Add (pair_of m e (m.weight e)))) EdgeAdded refl (rw (from, to, absent) refl) graph
 
   does_remove_edge : (e weight : ℕ) → EdgeEnd bound top m c e → Only rows k (edge_ends e) →
@@ -78,7 +83,7 @@ module _ (bound top : ℕ) (m : Marks) (s : Sound bound top m) (c : Key) (bounde
       let ends : rows.edge_ends e ≡ suc k = effect ∙ number_at (edge_key bound m e (m.edge_del e)) v.key in
       let lives = edge_end bound top m s e k v.stamped v.effect ends in
       let (present, graph) = edge_removed rows laws k e o v.row ends lives in
-      let (from, to) = vertices_present rows laws k e (s.source_row e v.stamped) (s.target_row e v.stamped) (grind (arith, nat_tests)) (grind (arith, nat_tests)) (grind (arith, nat_tests)) in
+      let (from, to) = ends_present e v.stamped (grind (arith, nat_tests)) (grind (arith, nat_tests)) (grind (arith, nat_tests)) in
       does_change rows k (asks (call.Edge Remove (pair_of m e weight))) EdgeRemoved refl (rw (from, to, present) refl) graph
 
   found : (i : ℕ) (there : Bool) → VertexFound bound m c i there → has_at rows k i ≡ there

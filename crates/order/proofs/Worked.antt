@@ -9,7 +9,7 @@ use Rattle.order.specs.Past.{Finish, Precedes, Belongs, fed}
 use Rattle.order.specs.Order.{Standing, Explained, stamping, StampOrder, OneOrder}
 use Rattle.order.specs.Keys.{Key, Bounded, Fits}
 use Rattle.order.specs.Marks.{Marks, Sound}
-use Rattle.order.specs.Finds.{vertex_born, no_change, Finds, adds_vertex, finds_vertex}
+use Rattle.order.specs.Finds.{vertex_born, no_change, VertexThere, Finds, adds_vertex, finds_vertex}
 use Rattle.codes.specs.declared.answer.Answer.{Answer}
 use Rattle.codes.specs.declared.answer.Answer.TheVariants.{VertexAdded, VertexPresent}
 use Rattle.places.specs.declared.place.Op.TheVariants as op
@@ -18,7 +18,10 @@ use Rattle.order.specs.Worked.{two_calls, one_call, Worked}
 
 -- a call of the past is one of the two
 one_of_two : (b : ℕ) → Belongs two_calls b → (b ≡ 1) ⊎ (b ≡ 7)
-one_of_two b h = elim (cases_eq b 1) [ inl q ↦ inl q | inr q ↦ elim (cases_eq b 7) [ inl p ↦ inr p | inr p ↦ absurd (let x = h.began in grind (arith, nat_tests)) ] ]
+one_of_two b h = elim (cases_eq b 1) [
+  | inl q ↦ inl q
+  | inr q ↦ elim (cases_eq b 7) [ inl p ↦ inr p | inr p ↦ absurd (let x = h.began in grind (arith, nat_tests)) ]
+]
 
 belongs_add : Belongs two_calls 1
 belongs_add = record { began = refl; done = inl refl }
@@ -27,7 +30,9 @@ belongs_contains : Belongs two_calls 7
 belongs_contains = record { began = refl; done = inl refl }
 
 pairs_of_two : {X : Type 0} (R : X → X → Type 0) (x y : X) → R x y → AllPairs R (x ∷ y ∷ [])
-pairs_of_two R x y h = AllPairs-cons R x (y ∷ []) (All-cons (R x) y [] h (All-nil (R x))) (AllPairs-cons R y [] (All-nil (R y)) (λ i j d l u. absurd (omega arith)))
+pairs_of_two R x y h =
+    let last : AllPairs R (y ∷ []) = AllPairs-cons R y [] (All-nil (R y)) (λ i j d l u. absurd (omega arith)) in
+    AllPairs-cons R x (y ∷ []) (All-cons (R x) y [] h (All-nil (R x))) last
 
 abbrev finish_time : Option Finish → ℕ
 finish_time None = 0
@@ -123,6 +128,9 @@ each_key P p q b k e = elim (cases_eq b 1) [
 times : (b : ℕ) (k : Key) → key b ≡ Some k → ((b ≡ 1) × (k.time ≡ 3)) ⊎ ((b ≡ 7) × (k.time ≡ 8))
 times = each_key (λ b k. ((b ≡ 1) × (k.time ≡ 3)) ⊎ ((b ≡ 7) × (k.time ≡ 8))) (inl (refl, refl)) (inr (refl, refl))
 
+row_there : VertexThere 20 rows contains_key 0
+row_there = record { row = omega arith; born = inl (inr (refl, omega arith)); ends = inl (omega arith) }
+
 marked : Marked two_calls
 marked = record {
   now = 10;
@@ -158,7 +166,7 @@ marked = record {
   finds = each_key (λ b k. (a : Answer) × Finds 20 9 rows k (fed two_calls b) (cond (b == 1) (vertex_born 0) no_change) a ×
       IfSome (two_calls.finish b) (Told (graph_before 20 9 rows k) (fed two_calls b) a))
       (VertexAdded, adds_vertex 0 (record { row = omega arith; stamped = omega arith; key = refl }), record { answer = refl; page = tt })
-      (VertexPresent, finds_vertex op.Contains 0 true (0, record { row = omega arith; born = inl (inr (refl, omega arith)); ends = inl (omega arith) }, refl) refl, record { answer = refl; page = tt });
+      (VertexPresent, finds_vertex op.Contains 0 true (0, row_there, refl) refl, record { answer = refl; page = tt });
 }
 
 pub worked : Worked

@@ -51,5 +51,6 @@ raise_graph bound top m r t = graph_before bound top m (change_key bound (record
 
 -- that graph, and no other, shows the rows that are visible at t
 abbrev pub RaisesShowVisible : Type 0
-RaisesShowVisible = (clock : ℕ → ℕ) (bound top : ℕ) (m : Marks) → Sound bound top m → (r t : ℕ) → r < bound → t ≤ top → Raise clock r t → AllSettled clock r top m →
+RaisesShowVisible = (clock : ℕ → ℕ) (bound top : ℕ) (m : Marks) → Sound bound top m →
+    (r t : ℕ) → r < bound → t ≤ top → Raise clock r t → AllSettled clock r top m →
     ShowsVisible m t (raise_graph bound top m r t) × ((g : Graph) → ShowsVisible m t g → g ≡ raise_graph bound top m r t)

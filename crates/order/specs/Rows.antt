@@ -31,7 +31,8 @@ module _ (rows : Rows) (k : ℕ) where
   -- edge row e is there, and its vertex rows have not ended
   abbrev pub edge_lives : ℕ → Bool
   edge_lives e =
-      nat_le (rows.edge_born e) k && (nat_lt k (rows.edge_ends e) && (nat_lt k (rows.vertex_ends (rows.source e)) && nat_lt k (rows.vertex_ends (rows.target e))))
+      nat_le (rows.edge_born e) k &&
+      (nat_lt k (rows.edge_ends e) && (nat_lt k (rows.vertex_ends (rows.source e)) && nat_lt k (rows.vertex_ends (rows.target e))))
 
   -- vertex row r shows that key i is a vertex
   abbrev pub shows_vertex : ℕ → ℕ → Bool
