@@ -1,5 +1,5 @@
 -- The worked case.
-use Rattle.std.proofs.Common.{◌≡◌, ℕ, ◌<◌, ◌≤◌, true, cond, List, [], ◌∷◌, Some, None, Option, IfSome, ◌==◌, All, AllPairs, ◌≢◌, ◌⊎◌, refl, sym, ap, subst, subst₂, inl, inr, arith}
+use Rattle.std.proofs.Common.{◌≡◌, ℕ, true, cond, List, [], ◌∷◌, Some, None, Option, ◌==◌, All, AllPairs, ◌≢◌, ◌⊎◌, refl, sym, ap, subst, subst₂, inl, inr, arith}
 use Rattle.std.proofs.lemmas.Bool.{cases_eq}
 use Rattle.std.proofs.lemmas.Bool.Decides.{nat_tests}
 use Rattle.std.proofs.lemmas.List.Elements.{All-nil, All-cons, All-contains}
@@ -7,13 +7,12 @@ use Rattle.std.proofs.lemmas.List.Kept.{AllPairs-cons}
 use Rattle.order.specs.Graph.{empty, after}
 use Rattle.order.specs.Past.{Finish, Precedes, Belongs, fed}
 use Rattle.order.specs.Order.{Standing, Explained, stamping, StampOrder, OneOrder}
-use Rattle.order.specs.Keys.{Key, Bounded, Fits}
+use Rattle.order.specs.Keys.{Key}
 use Rattle.order.specs.Marks.{Marks, Sound}
-use Rattle.order.specs.Finds.{vertex_born, no_change, VertexThere, Finds, adds_vertex, finds_vertex}
-use Rattle.codes.specs.declared.answer.Answer.{Answer}
+use Rattle.order.specs.Finds.{vertex_born, no_change, VertexThere, adds_vertex, finds_vertex}
 use Rattle.codes.specs.declared.answer.Answer.TheVariants.{VertexAdded, VertexPresent}
 use Rattle.places.specs.declared.place.Op.TheVariants as op
-use Rattle.order.specs.Marked.{end_of, graph_before, Told, Marked}
+use Rattle.order.specs.Marked.{Marking, CallMarked, by_call, Marked, Fresh}
 use Rattle.order.specs.Worked.{two_calls, one_call, Worked}
 
 -- a call of the past is one of the two
@@ -131,43 +130,69 @@ times = each_key (λ b k. ((b ≡ 1) × (k.time ≡ 3)) ⊎ ((b ≡ 7) × (k.tim
 row_there : VertexThere 20 rows contains_key 0
 row_there = record { row = omega arith; born = inl (inr (refl, omega arith)); ends = inl (omega arith) }
 
-marked : Marked two_calls
-marked = record {
+abbrev run : Marking
+run = record {
   now = 10;
   clock = λ t. 1;
-  rises = λ s t h. omega arith;
   bound = 20;
-  some_time = omega arith;
   top = 9;
-  start_stamp = omega arith;
+  marks = rows;
   key = key;
-  belongs = each_key (λ b k. Belongs two_calls b) belongs_add belongs_contains;
+  change = λ b. cond (b == 1) (vertex_born 0) no_change;
+}
+
+add_marked : CallMarked two_calls run 1 add_key
+add_marked = record {
+  belongs = belongs_add;
+  early = omega arith;
+  bounded = omega arith;
+  time = omega arith;
+  low = omega arith;
+  high = omega arith;
+  fits = record { time = omega arith; stamp = omega arith; since = inl (omega arith); fair = omega arith };
+  stamp = λ n. refl;
+  raise = λ t e. absurd (grind arith);
+  answer = VertexAdded;
+  finds = adds_vertex 0 (record { row = omega arith; stamped = omega arith; key = refl });
+  told = record { answer = refl; page = tt };
+}
+
+contains_marked : CallMarked two_calls run 7 contains_key
+contains_marked = record {
+  belongs = belongs_contains;
+  early = omega arith;
+  bounded = omega arith;
+  time = omega arith;
+  low = omega arith;
+  high = omega arith;
+  fits = record { time = omega arith; stamp = omega arith; since = inl (omega arith); fair = omega arith };
+  stamp = λ n. absurd (n refl);
+  raise = λ t e. absurd (grind arith);
+  answer = VertexPresent;
+  finds = finds_vertex op.Contains 0 true (0, row_there, refl) refl;
+  told = record { answer = refl; page = tt };
+}
+
+marked : Marked two_calls run
+marked = record {
+  rises = λ s t h. omega arith;
+  start_stamp = omega arith;
+  some_time = omega arith;
   keyed = λ b h. elim (one_of_two b h) [
     | inl q ↦ (add_key, subst (λ b. key b ≡ Some add_key) (sym q) refl)
     | inr q ↦ (contains_key, subst (λ b. key b ≡ Some contains_key) (sym q) refl)
   ];
-  early = each_key (λ b k. b < 10) (omega arith) (omega arith);
-  bounded = each_key (λ b k. Bounded 20 k) (omega arith) (omega arith);
-  timed = each_key (λ b k. 0 < k.time) (omega arith) (omega arith);
-  stamped = each_key (λ b k. (1 ≤ k.stamp) × (k.stamp ≤ 9)) (omega arith) (omega arith);
+  calls = each_key (CallMarked two_calls run) add_marked contains_marked;
   apart = λ b c k l e f t q. omega (arith, times b k e, times c l f);
-  fits = each_key (λ b k. Fits (λ t. 1) k b (end_of 10 (two_calls.finish b)))
-      (record { time = omega arith; stamp = omega arith; since = inl (omega arith); fair = omega arith })
-      (record { time = omega arith; stamp = omega arith; since = inl (omega arith); fair = omega arith });
-  marks = rows;
   sound = sound;
-  change = λ b. cond (b == 1) (vertex_born 0) no_change;
-  vertex_births = λ r h. (let q : r ≡ 0 = grind (arith, nat_tests) in rw q (inr (1, refl, refl)));
+  vertex_births = λ r h. (let q : r ≡ 0 = grind (arith, nat_tests) in rw q (by_call 1 refl refl));
   vertex_endings = λ r h. absurd (omega arith);
   edge_births = λ e h. absurd (grind arith);
   edge_endings = λ e h. absurd (grind arith);
-  stamps = each_key (λ b k. cond (b == 1) (vertex_born 0) no_change ≢ no_change → two_calls.stamp b ≡ Some k.stamp) (λ n. refl) (λ n. absurd (n refl));
-  raises = λ b k t e f. absurd (grind arith);
-  finds = each_key (λ b k. (a : Answer) × Finds 20 9 rows k (fed two_calls b) (cond (b == 1) (vertex_born 0) no_change) a ×
-      IfSome (two_calls.finish b) (Told (graph_before 20 9 rows k) (fed two_calls b) a))
-      (VertexAdded, adds_vertex 0 (record { row = omega arith; stamped = omega arith; key = refl }), record { answer = refl; page = tt })
-      (VertexPresent, finds_vertex op.Contains 0 true (0, row_there, refl) refl, record { answer = refl; page = tt });
 }
 
+fresh : Fresh run
+fresh = record { vertices = λ r t h. grind (arith, nat_tests); edges = λ e t h. omega arith }
+
 pub worked : Worked
-worked = record { order = order; marked = marked; refused = refused }
+worked = record { order = order; marked = (run, marked, fresh); refused = refused }

@@ -2,7 +2,7 @@
 use Rattle.std.specs.Prelude.{◌≡◌, ℕ, suc, ◌<◌, ◌≤◌, true, ◌≢◌, ◌↔◌, Some}
 use Rattle.questions.specs.Graph.{Graph}
 use Rattle.order.specs.Marks.{Mark, Marks, Sound, change_key}
-use Rattle.order.specs.Marked.{graph_before}
+use Rattle.order.specs.Rows.{graph_before}
 
 -- the clock is raised from t at time r
 pub record Raise (clock : ℕ → ℕ) (r t : ℕ) : Type 0 where

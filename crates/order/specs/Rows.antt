@@ -1,5 +1,5 @@
 -- Rows that live from key to key, and the graph that they make at each key. Keys are numbers here.
-use Rattle.std.specs.Prelude.{ℕ, zero, suc, Bool, cond, ◌&&◌, Some, None, Option, is_some, ◌==◌, nat_le, nat_lt}
+use Rattle.std.specs.Prelude.{ℕ, zero, suc, pred, Bool, cond, ◌&&◌, Some, None, Option, is_some, ◌==◌, nat_le, nat_lt}
 use Rattle.questions.specs.Graph.{Graph}
 use Rattle.order.specs.Keys.{Key, number}
 use Rattle.order.specs.Marks.{Mark, Marks, source_end, target_end, change_key, has_effect, moved_key}
@@ -84,3 +84,7 @@ module _ (bound top : ℕ) where
     edge_born = λ e. edge_number (unborn top) (source_end m e) (target_end m e) (m.edge_ins e);
     edge_ends = λ e. edge_number (suc top) (source_end m e) (target_end m e) (m.edge_del e);
   }
+
+-- the graph just before a key
+abbrev pub graph_before : ℕ → ℕ → Marks → Key → Graph
+graph_before bound top m k = graph_at (rows_of bound top m) (pred (number bound k))

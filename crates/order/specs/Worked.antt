@@ -6,7 +6,7 @@ use Rattle.places.specs.declared.place.Call.TheVariants as call
 use Rattle.order.specs.Graph.{empty}
 use Rattle.order.specs.Past.{Past}
 use Rattle.order.specs.Order.{OneOrder}
-use Rattle.order.specs.Marked.{Marked}
+use Rattle.order.specs.Marked.{Marking, Marked, Fresh}
 
 -- an add of vertex 0 begins at time 1, makes a change that bears stamp 1, and is finished at 6; a contains begins at 7 and is finished at 9
 abbrev pub two_calls : Past
@@ -30,7 +30,7 @@ one_call = record {
 pub record Worked : Type 0 where
   -- the two calls stand as they were finished
   pub order : OneOrder two_calls empty (1 ∷ 7 ∷ [])
-  -- a run can owe nothing more for them
-  pub marked : Marked two_calls
+  -- a run that starts with no rows can give what it owes for them
+  pub marked : (run : Marking) × Marked two_calls run × Fresh run
   -- no order explains that the vertex was found in the empty graph
   pub refused : (order : List ℕ) → ¬ (OneOrder one_call empty order)
