@@ -12,6 +12,7 @@ mod Numbered
 mod Owners
 mod Marked
 mod Raises
-mod Worked
+mod TwoCalls
+mod EarlyAnswer
 pub mod Times
 pub mod Pages

@@ -17,12 +17,12 @@ contains_later b c bs (k, l, e) = (suc k, omega arith, e)
 
 module _ (h : Past) where
   -- the calls of the standings are those of the order
-  call_at : (g : Graph) (order : List ℕ) (i d : ℕ) (e : Graph) → (get_or (standings h g order) i (record { call = d; before = e })).call ≡ get_or order i d
+  pub call_at : (g : Graph) (order : List ℕ) (i d : ℕ) (e : Graph) → (get_or (standings h g order) i (record { call = d; before = e })).call ≡ get_or order i d
   call_at g [] i d e = refl
   call_at g (b ∷ bs) zero d e = refl
   call_at g (b ∷ bs) (suc i) d e = call_at (after g (fed h b)) bs i d e
 
-  length-standings : (g : Graph) (order : List ℕ) → length (standings h g order) ≡ length order
+  pub length-standings : (g : Graph) (order : List ℕ) → length (standings h g order) ≡ length order
   length-standings g [] = refl
   length-standings g (b ∷ bs) = ap suc (length-standings (after g (fed h b)) bs)
 

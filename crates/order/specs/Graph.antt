@@ -25,9 +25,9 @@ without_vertex g i = record {
   edge = λ k j. cond ((k == i) || (j == i)) None (g.edge k j);
 }
 
--- another weight, or none, of the edge from i to j
+-- another weight, or none, from i to j
 abbrev pub with_edge : Graph → ℕ → ℕ → Option ℕ → Graph
-with_edge g i j w = record { has = g.has; edge = λ k l. cond ((k == i) && (l == j)) w (g.edge k l) }
+with_edge g i j weight = record { has = g.has; edge = λ k l. cond ((k == i) && (l == j)) weight (g.edge k l) }
 
 -- what the plain graph is fed for a call: the call, or the answer of a call that ended for want of rows or of clock
 pub data Feed : Type 0 where
@@ -42,11 +42,13 @@ both g p = g.has p.from && g.has p.to
 abbrev pub joined : Graph → Pair → Bool
 joined g p = is_some (g.edge p.from p.to)
 
+-- of a vertex that is there or is not
 abbrev pub vertex_answer : Op → Bool → Answer
 vertex_answer Add present = cond present VertexAlready VertexAdded
 vertex_answer Remove present = cond present VertexRemoved VertexAbsent
 vertex_answer Contains present = cond present VertexPresent VertexAbsent
 
+-- of an edge, between two vertices, that is there or is not
 abbrev pub edge_answer : Op → Bool → Answer
 edge_answer Add present = cond present EdgeAlready EdgeAdded
 edge_answer Remove present = cond present EdgeRemoved EdgeAbsent
@@ -80,6 +82,7 @@ edge_changed Add g p = with_edge g p.from p.to (Some p.weight)
 edge_changed Remove g p = with_edge g p.from p.to None
 edge_changed Contains g p = g
 
+-- the same for what is fed
 abbrev pub changed : Graph → Feed → Graph
 changed g (asks (call.Vertex o i)) = vertex_changed o g i
 changed g (asks (call.Edge o p)) = edge_changed o g p

@@ -62,10 +62,11 @@ moved_key bound d f x = record { stamp = x.stamp; time = moved_time d f x; part 
 abbrev pub has_effect : ℕ → Mark → Mark → Mark → Bool
 has_effect top d f x = nat_le x.stamp top && (nat_le x.stamp d.stamp && nat_le x.stamp f.stamp)
 
--- the same for the change x of the edge row e
+-- the change x of the edge row e has an effect
 abbrev pub edge_effect : ℕ → Marks → ℕ → Mark → Bool
 edge_effect top m e x = has_effect top (source_end m e) (target_end m e) x
 
+-- the key of the change x of the edge row e
 abbrev pub edge_key : ℕ → Marks → ℕ → Mark → Key
 edge_key bound m e x = moved_key bound (source_end m e) (target_end m e) x
 

@@ -47,9 +47,11 @@ module _ (rows : Rows) (k : ℕ) where
   weight_of None = None
   weight_of (Some e) = Some (rows.weight e)
 
+  -- a row shows that key i is a vertex
   unfoldable pub has_at : ℕ → Bool
   has_at i = is_some (last_below (shows_vertex i) rows.vertices)
 
+  -- the weight of the edge from i to j that a row shows, if one does
   unfoldable pub edge_at : ℕ → ℕ → Option ℕ
   edge_at i j = weight_of (last_below (shows_edge i j) rows.edges)
 

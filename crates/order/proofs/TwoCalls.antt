@@ -1,5 +1,5 @@
--- The worked case.
-use Rattle.std.proofs.Common.{◌≡◌, ℕ, true, cond, List, [], ◌∷◌, Some, None, Option, ◌==◌, All, AllPairs, ◌≢◌, ◌⊎◌, refl, sym, ap, subst, subst₂, inl, inr, arith}
+-- The worked case of two calls: their order, and what a run can give for them.
+use Rattle.std.proofs.Common.{◌≡◌, ℕ, true, cond, [], ◌∷◌, Some, None, Option, ◌==◌, All, AllPairs, ◌≢◌, ◌⊎◌, refl, sym, ap, subst, subst₂, inl, inr, arith}
 use Rattle.std.proofs.lemmas.Bool.{cases_eq}
 use Rattle.std.proofs.lemmas.Bool.Decides.{nat_tests}
 use Rattle.std.proofs.lemmas.List.Elements.{All-nil, All-cons, All-contains}
@@ -13,7 +13,7 @@ use Rattle.order.specs.Finds.{vertex_born, no_change, VertexThere, adds_vertex, 
 use Rattle.codes.specs.declared.answer.Answer.TheVariants.{VertexAdded, VertexPresent}
 use Rattle.places.specs.declared.place.Op.TheVariants as op
 use Rattle.order.specs.Marked.{Marking, CallMarked, by_call, Marked, Fresh}
-use Rattle.order.specs.Worked.{two_calls, one_call, Worked}
+use Rattle.order.specs.Worked.{two_calls}
 
 -- a call of the past is one of the two
 one_of_two : (b : ℕ) → Belongs two_calls b → (b ≡ 1) ⊎ (b ≡ 7)
@@ -46,7 +46,7 @@ contains_standing = record { call = 7; before = after empty (fed two_calls 1) }
 all_of_two : {X : Type 0} (P : X → Type 0) (x y : X) → P x → P y → All P (x ∷ y ∷ [])
 all_of_two P x y p q = All-cons P x (y ∷ []) p (All-cons P y [] q (All-nil P))
 
-order : OneOrder two_calls empty (1 ∷ 7 ∷ [])
+pub order : OneOrder two_calls empty (1 ∷ 7 ∷ [])
 order = record {
   members = λ b. (
     λ c. All-contains (Belongs two_calls) (1 ∷ 7 ∷ []) b (all_of_two (Belongs two_calls) 1 7 belongs_add belongs_contains) c,
@@ -57,16 +57,6 @@ order = record {
   stamps = pairs_of_two (λ s t. StampOrder (stamping two_calls s) (stamping two_calls t)) add_standing contains_standing tt;
   explains = all_of_two (Explained two_calls) add_standing contains_standing (record { answer = refl; page = tt }) (record { answer = refl; page = tt });
 }
-
--- an order of the contains alone would have to begin with it
-refused : (order : List ℕ) → ¬ (OneOrder one_call empty order)
-refused [] o = let c = (o.members 7).1 (record { began = refl; done = inl refl }) in omega (arith, c.1)
-refused (b ∷ bs) o =
-    let h = (o.members b).0 (0, omega arith, refl) in
-    let q : b ≡ 7 = grind (arith, nat_tests, h.began) in
-    let e : Explained one_call (record { call = b; before = empty }) = o.explains 0 (record { call = b; before = empty }) (omega arith) in
-    let f : Explained one_call (record { call = 7; before = empty }) = subst (λ b. Explained one_call (record { call = b; before = empty })) q e in
-    absurd (let g = f.answer in grind arith)
 
 -- one vertex row, of key 0, which became pending at time 3 and has stamp 1
 abbrev rows : Marks
@@ -130,7 +120,7 @@ times = each_key (λ b k. ((b ≡ 1) × (k.time ≡ 3)) ⊎ ((b ≡ 7) × (k.tim
 row_there : VertexThere 20 rows contains_key 0
 row_there = record { row = omega arith; born = inl (inr (refl, omega arith)); ends = inl (omega arith) }
 
-abbrev run : Marking
+abbrev pub run : Marking
 run = record {
   now = 10;
   clock = λ t. 1;
@@ -173,7 +163,7 @@ contains_marked = record {
   told = record { answer = refl; page = tt };
 }
 
-marked : Marked two_calls run
+pub marked : Marked two_calls run
 marked = record {
   rises = λ s t h. omega arith;
   start_stamp = omega arith;
@@ -191,8 +181,5 @@ marked = record {
   edge_endings = λ e h. absurd (grind arith);
 }
 
-fresh : Fresh run
+pub fresh : Fresh run
 fresh = record { vertices = λ r t h. grind (arith, nat_tests); edges = λ e t h. omega arith }
-
-pub worked : Worked
-worked = record { order = order; marked = (run, marked, fresh); refused = refused }
