@@ -30,14 +30,16 @@ module _ {h : Past} {run : Marking} (p : Marked h run) where
 
   played : (b n : ℕ) (e : key p b ≡ Some (suc n)) → Played b n (keyed p b (suc n) e).at
   played b n e =
-      let k = keyed p b (suc n) e in
+      let k = keyed p b (suc n) e in let call = k.call in
       let u = ranges p b (suc n) e in
-      let call = k.call in
+      let alone = only_own p n (omega arith) (omega arith) b e in
       let before : pred (number run.bound k.at) ≡ n = omega (arith, k.number) in
       record {
         answer = call.answer;
-        does = finds_does run.bound run.top run.marks p.sound k.at k.call.bounded n k.number (fed h b) (run.change b) call.answer call.finds (only_own p n (omega arith) (omega arith) b e);
-        changes = λ c. (let (some, part) = change_at run.bound run.top run.marks p.sound k.at (fed h b) (run.change b) call.answer call.finds c in (call.stamp some, part));
+        does = finds_does run.bound run.top run.marks p.sound k.at call.bounded n k.number (fed h b) (run.change b) call.answer call.finds alone;
+        changes = λ c.
+            (let (some, part) = change_at run.bound run.top run.marks p.sound k.at (fed h b) (run.change b) call.answer call.finds c in
+            (call.stamp some, part));
         told = subst (λ i. IfSome (h.finish b) (Told (graph_at (rows p) i) (fed h b) call.answer)) before call.told;
       }
 

@@ -24,7 +24,8 @@ module _ (rows : Rows) (k : ℕ) where
   unfolding has_at
   vertex_row i h = go (last_below (shows_vertex rows k i) rows.vertices) refl h
     where
-      go : (o : Option ℕ) → last_below (shows_vertex rows k i) rows.vertices ≡ o → is_some o ≡ true → (r : ℕ) × (r < rows.vertices) × (shows_vertex rows k i r ≡ true)
+      go : (o : Option ℕ) → last_below (shows_vertex rows k i) rows.vertices ≡ o → is_some o ≡ true →
+          (r : ℕ) × (r < rows.vertices) × (shows_vertex rows k i r ≡ true)
       go None e h = absurd (grind arith)
       go (Some r) e h = let (l, p) = last_below_passes (shows_vertex rows k i) rows.vertices r e in (r, l, p)
 
