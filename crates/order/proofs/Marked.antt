@@ -36,7 +36,7 @@ module _ {h : Past} {run : Marking} (p : Marked h run) where
       let before : pred (number run.bound k.at) ≡ n = omega (arith, k.number) in
       record {
         answer = call.answer;
-        does = finds_does run.bound run.top run.marks p.sound k.at call.bounded n k.number (fed h b) (run.change b) call.answer call.finds alone;
+        does = finds_does run.bound run.top run.marks p.sound k.at call.bounded call.high n k.number (fed h b) (run.change b) call.answer call.finds alone;
         changes = λ c.
             (let (some, part) = change_at run.bound run.top run.marks p.sound k.at (fed h b) (run.change b) call.answer call.finds c in
             (call.stamp some, part));

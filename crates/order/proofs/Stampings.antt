@@ -47,7 +47,7 @@ module _ (bound top : ℕ) (m : Marks) (s : Sound bound top m) (k : Key) where
   change_at f v a (removes_edge x weight h) e = (λ z. grind arith, rw h.key (edge_part x (m.edge_del x) (s.edge_del x)))
   change_at f v a (finds_vertex o i there h n) e = absurd (grind arith)
   change_at f v a (finds_no_vertex o p h) e = absurd (grind arith)
-  change_at f v a (finds_edge o p r t there h l i n) e = absurd (grind arith)
+  change_at f v a (finds_edge o p r t there h i n) e = absurd (grind arith)
   change_at f v a takes_snapshot e = absurd (grind arith)
   change_at f v a (reaches i h) e = absurd (grind arith)
   change_at f v a (reaches_none i h) e = absurd (grind arith)

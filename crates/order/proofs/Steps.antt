@@ -38,7 +38,8 @@ does_nothing : (rows : Rows) (k : ℕ) (f : Feed) (a : Answer) → is_change a �
     graph_at rows (suc k) ≡ graph_at rows k → Does rows k f a
 does_nothing rows k f a h e g = (e, g ∙ sym (after_still (graph_at rows k) f a e h))
 
-module _ (bound top : ℕ) (m : Marks) (s : Sound bound top m) (c : Key) (bounded : Bounded bound c) (k : ℕ) (at : number bound c ≡ suc k) where
+module _ (bound top : ℕ) (m : Marks) (s : Sound bound top m)
+    (c : Key) (bounded : Bounded bound c) (high : c.stamp ≤ top) (k : ℕ) (at : number bound c ≡ suc k) where
   abbrev rows : Rows
   rows = rows_of bound top m
 
@@ -95,13 +96,13 @@ module _ (bound top : ℕ) (m : Marks) (s : Sound bound top m) (c : Key) (bounde
   not_both p (inr h) = let e = found p.to false h in grind arith
 
   -- both vertices are there, and the edge is or is not
-  pair_found : (o : Op) (p : Pair) (r t : ℕ) (there : Bool) → PairThere bound m c p r t → c.stamp ≤ top → EdgeFound bound m c r t there →
+  pair_found : (o : Op) (p : Pair) (r t : ℕ) (there : Bool) → PairThere bound m c p r t → EdgeFound bound m c r t there →
       answer_to (graph_at rows k) (asks (call.Edge o p)) ≡ edge_answer o there
-  pair_found o p r t there v l h =
+  pair_found o p r t there v h =
       let from = found p.from true (r, v.source, v.from) in
       let to = found p.to true (t, v.target, v.to) in
       let edge : joined (graph_at rows k) p ≡ there =
-      subst₂ (λ i j. is_some (edge_at rows k i j) ≡ there) v.from v.to (edge_found bound top m s c bounded k at r t there v.source v.target l h) in
+      subst₂ (λ i j. is_some (edge_at rows k i j) ≡ there) v.from v.to (edge_found bound top m s c bounded k at r t there v.source v.target high h) in
       rw (from, to, edge) refl
 
   -- where nothing changes
@@ -115,7 +116,7 @@ module _ (bound top : ℕ) (m : Marks) (s : Sound bound top m) (c : Key) (bounde
   finds_does f v a (removes_edge e weight h) o = does_remove_edge e weight h o
   finds_does f v a (finds_vertex p i there h n) o = still (asks (call.Vertex p i)) (vertex_answer p there) n (ap (vertex_answer p) (found i there h)) o
   finds_does f v a (finds_no_vertex p q h) o = still (asks (call.Edge p q)) VertexAbsent refl (rw (not_both q h) refl) o
-  finds_does f v a (finds_edge p q r t there h l i n) o = still (asks (call.Edge p q)) (edge_answer p there) n (pair_found p q r t there h l i) o
+  finds_does f v a (finds_edge p q r t there h i n) o = still (asks (call.Edge p q)) (edge_answer p there) n (pair_found p q r t there h i) o
   finds_does f v a takes_snapshot o = still (asks (call.Survey Snapshot)) SnapshotTaken refl refl o
   finds_does f v a (reaches i h) o = still (asks (call.Survey (Reach i))) ReachTaken refl (rw (found i true h) refl) o
   finds_does f v a (reaches_none i h) o = still (asks (call.Survey (Reach i))) VertexAbsent refl (rw (found i false h) refl) o

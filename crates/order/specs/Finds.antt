@@ -107,8 +107,9 @@ module _ (bound top : ℕ) (m : Marks) (k : Key) where
     finds_no_vertex : (o : Op) (p : Pair) → VertexFound bound m k p.from false ⊎ VertexFound bound m k p.to false →
         Finds (asks (call.Edge o p)) no_change VertexAbsent
     -- an edge call between two vertices that changes nothing
-    finds_edge : (o : Op) (p : Pair) (r s : ℕ) (there : Bool) → PairThere bound m k p r s → k.stamp ≤ top → EdgeFound bound m k r s there →
+    finds_edge : (o : Op) (p : Pair) (r s : ℕ) (there : Bool) → PairThere bound m k p r s → EdgeFound bound m k r s there →
         is_change (edge_answer o there) ≡ false → Finds (asks (call.Edge o p)) no_change (edge_answer o there)
+    -- a snapshot, and a reach from a key that is a vertex or is not
     takes_snapshot : Finds (asks (call.Survey Snapshot)) no_change SnapshotTaken
     reaches : (i : ℕ) → VertexFound bound m k i true → Finds (asks (call.Survey (Reach i))) no_change ReachTaken
     reaches_none : (i : ℕ) → VertexFound bound m k i false → Finds (asks (call.Survey (Reach i))) no_change VertexAbsent

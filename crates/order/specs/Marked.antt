@@ -37,13 +37,14 @@ pub record RaiseKey (run : Marking) (k : Key) (t : ℕ) : Type 0 where
   pub part : k.part ≡ run.bound
   pub raised : run.clock (suc k.time) ≡ suc t
 
--- a call that was asked f was finished with the answer a, and its page shows what the graph g gives
+-- a call that is fed as f was finished with the answer a, and its page shows what the graph g gives
 pub record Told (g : Graph) (f : Feed) (a : Answer) (e : Finish) : Type 0 where
   pub answer : e.answer ≡ a
   pub page : Shows g f e.page
 
 -- what is owed for the call that began at b and has the key k
 pub record CallMarked (h : Past) (run : Marking) (b : ℕ) (k : Key) : Type 0 where
+  -- it belongs to the order, and began before now
   pub belongs : Belongs h b
   pub early : b < run.now
   -- its key is of a time after the start, and of a stamp from that of the start on
@@ -60,7 +61,7 @@ pub record CallMarked (h : Past) (run : Marking) (b : ℕ) (k : Key) : Type 0 wh
   -- what it finds at its key
   pub answer : Answer
   pub finds : Finds run.bound run.top run.marks k (fed h b) (run.change b) answer
-  -- if it is finished, the run told so
+  -- if it is finished, that was its answer, and its page shows what the graph just before the key gives
   pub told : IfSome (h.finish b) (Told (graph_before run.bound run.top run.marks k) (fed h b) answer)
 
 -- the change x is from before the start, or a call that stands at the key k makes it
@@ -68,9 +69,11 @@ pub data Made (run : Marking) (x : Mark) (k : Key) (v : RowChange) : Type 0 wher
   before_start : x.time ≡ 0 → x.stamp ≤ run.clock 0 → Made run x k v
   by_call : (b : ℕ) → run.key b ≡ Some k → run.change b ≡ v → Made run x k v
 
+-- what is owed
 pub record Marked (h : Past) (run : Marking) : Type 0 where
   -- the clock never falls
   pub rises : (s t : ℕ) → s ≤ t → run.clock s ≤ run.clock t
+  -- there is a time, and the start has a stamp
   pub start_stamp : run.clock 0 ≤ run.top
   pub some_time : 0 < run.bound
   -- each call that belongs to the order has a key, with what is owed for it
@@ -101,7 +104,7 @@ start_graph run = graph_at (rows_of run.bound run.top run.marks) (number run.bou
 abbrev pub MarkedStands : Type 0
 MarkedStands = (h : Past) (run : Marking) → Marked h run → (order : List ℕ) × OneOrder h (start_graph run) order
 
--- no row is from before the start, when the clock had a stamp
+-- no row is from before the start
 pub record Fresh (run : Marking) : Type 0 where
   pub vertices : (r : ℕ) → (run.marks.vertex_ins r).time ≡ 0 → ¬ ((run.marks.vertex_ins r).stamp ≤ run.clock 0)
   pub edges : (e : ℕ) → (run.marks.edge_ins e).time ≡ 0 → ¬ ((run.marks.edge_ins e).stamp ≤ run.clock 0)

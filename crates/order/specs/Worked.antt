@@ -32,7 +32,7 @@ early_answer = record {
 }
 
 pub record Worked : Type 0 where
-  -- the two calls stand as they were finished
+  -- the two calls have an order
   pub order : OneOrder two_calls empty (1 ∷ 7 ∷ [])
   -- a run that starts with no rows can give what it owes for them
   pub marked : (run : Marking) × Marked two_calls run × Fresh run
