@@ -12,6 +12,7 @@ mod Numbered
 mod Owners
 mod Marked
 mod Raises
+pub mod Seen
 mod TwoCalls
 mod EarlyAnswer
 pub mod Times

@@ -1,8 +1,8 @@
 -- Keys: where calls stand in the order of a run.
 use Rattle.std.specs.Prelude.{ℕ, ◌+◌, ◌*◌, ◌<◌, ◌≤◌, ◌⊎◌}
 
--- a stamp, then a time, then a third part; keys compare from the left. Of a change and of a raise the third part is the bound of the times,
--- of a call that stands right after a change it is greater
+-- a stamp, then a time, then a third part; keys compare from the left. The third part of a raise, and of a change that stands at its own time,
+-- is the bound of the times; that of a call right after a change is greater
 pub record Key : Type 0 where
   pub stamp : ℕ
   pub time : ℕ

@@ -8,4 +8,5 @@ pub mod Rows
 pub mod Finds
 pub mod Marked
 pub mod Raises
+pub mod Seen
 pub mod Worked

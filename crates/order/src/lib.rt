@@ -4,6 +4,7 @@
 ghost use Rattle.order.specs.Marked.{FreshStands, MarkedStands};
 ghost use Rattle.order.specs.Placed.{PlacedStands};
 ghost use Rattle.order.specs.Raises.{RaisesShowVisible};
+ghost use Rattle.order.specs.Seen.{PastsSeen};
 ghost use Rattle.order.specs.Worked.{Worked};
 
 // Calls that keys place have one order, which explains what the run shows of them.
@@ -24,6 +25,11 @@ pub fn fresh_calls_have_one_order()
 // The graph just before a raise of the clock is that of the rows which a snapshot or reach has to show.
 pub fn raises_show_visible_rows()
     ensures { RaisesShowVisible }
+{}
+
+// A past made of what is seen at each time tells what was seen, where workers begin one call at a time.
+pub fn pasts_tell_what_was_seen()
+    ensures { PastsSeen }
 {}
 
 // An order can be had, and not every past has one.
