@@ -61,7 +61,7 @@ module _ (bound top : ℕ) (m : Marks) (s : Sound bound top m) (c : Key) (bounde
 
   pub vertex_found : (i : ℕ) (there : Bool) → VertexFound bound m c i there → has_at rows k i ≡ there
   vertex_found i true (r, t, q) = subst (λ i. has_at rows k i ≡ true) q (vertex_there r t)
-  vertex_found i false h = vertex_absent rows laws k i (λ r l q. elim (h r q) [ inl f ↦ inl (vertex_born_late r f) | inr f ↦ inr (vertex_ends_by r f) ])
+  vertex_found i false h = vertex_absent rows laws k i (λ r l q. elim (h r l q) [ inl f ↦ inl (vertex_born_late r f) | inr f ↦ inr (vertex_ends_by r f) ])
 
   -- an edge row that is there, and whose vertex rows end later
   pub edge_there : (e : ℕ) → EdgeThere bound m c e → After c (source_end m e) → After c (target_end m e) → c.stamp ≤ top →
@@ -111,5 +111,5 @@ module _ (bound top : ℕ) (m : Marks) (s : Sound bound top m) (c : Key) (bounde
       subst₂ (λ r t. is_some (edge_at rows k (m.key_of r) (m.key_of t)) ≡ true) p q (ap is_some found)
   edge_found r t false a b l h = ap is_some (edge_absent rows laws k (m.key_of r) (m.key_of t) (λ e i f g. elim (cases_Bool (edge_lives rows k e)) [
     | inr z ↦ z
-    | inl z ↦ (let (p, q) = bound_to e r t a b f g z in edge_not_there e l (ends_later p a.ends) (ends_later q b.ends) (h e p q))
+    | inl z ↦ (let (p, q) = bound_to e r t a b f g z in edge_not_there e l (ends_later p a.ends) (ends_later q b.ends) (h e i p q))
   ]))

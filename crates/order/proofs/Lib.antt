@@ -15,5 +15,6 @@ mod Raises
 pub mod Seen
 mod TwoCalls
 mod EarlyAnswer
+pub mod Fitting
 pub mod Times
 pub mod Pages

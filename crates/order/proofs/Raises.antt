@@ -1,18 +1,34 @@
 -- The graph just before a raise is that of the rows that are visible at its number.
-use Rattle.std.proofs.Common.{◌≡◌, ℕ, zero, suc, pred, ◌<◌, ◌≤◌, Bool, true, false, Some, None, Option, refl, sym, ◌∙◌, ap, subst₂, inl, inr, arith}
+use Rattle.std.proofs.Common.{◌≡◌, ℕ, zero, suc, pred, ◌<◌, ◌≤◌, Bool, true, false, Some, None, Option, ◌≢◌, refl, sym, ◌∙◌, ap, subst₂, inl, inr, arith}
 use Rattle.std.proofs.lemmas.Bool.{cases_lt}
 use Rattle.std.proofs.lemmas.Bool.Decides.{nat_tests}
 use Rattle.questions.specs.Graph.{Graph}
 use Rattle.order.specs.Keys.{Key, Bounded, number}
-use Rattle.order.specs.Marks.{Mark, Marks, source_end, target_end, Sound, change_key}
+use Rattle.order.specs.Marks.{Mark, Marks, source_end, target_end, Sound}
 use Rattle.order.specs.Rows.{Rows, edge_lives, has_at, edge_at, graph_at, rows_of}
-use Rattle.order.specs.Finds.{Before, After, VertexThere, EdgeThere}
-use Rattle.order.specs.Raises.{Raise, Settled, AllSettled, VertexVisible, EdgeVisible, Joins, ShowsVisible, raise_graph, RaisesShowVisible}
+use Rattle.order.specs.Finds.{Before, After, VertexThere, EdgeThere, VertexFound}
+use Rattle.order.specs.Raises.{Raise, Settled, AllSettled, VertexVisible, EdgeVisible, Joins, ShowsVisible, raise_key, RaiseMeets, RaisesShowVisible}
 use Rattle.order.proofs.Keys.{number_by_part}
 use Rattle.order.proofs.Rows.{vertex_row, edge_row}
 use Rattle.order.proofs.Changes.{graph_equal}
 use Rattle.order.proofs.Lives.{lawful}
 use Rattle.order.proofs.Finds.{vertex_born_late, vertex_ends_by, vertex_found, edge_there, edge_not_there}
+
+bool_equal : (a b : Bool) → (a ≡ true → b ≡ true) → (b ≡ true → a ≡ true) → a ≡ b
+bool_equal true b f g = sym (f refl)
+bool_equal false true f g = g refl
+bool_equal false false f g = refl
+
+option_equal : (a b : Option ℕ) → ((x : ℕ) → a ≡ Some x → b ≡ Some x) → ((x : ℕ) → b ≡ Some x → a ≡ Some x) → a ≡ b
+option_equal (Some x) b f g = sym (f x refl)
+option_equal None (Some x) f g = g x refl
+option_equal None None f g = refl
+
+-- two graphs that show the visible rows are one
+visible_equal : (m : Marks) (t : ℕ) (g h : Graph) → ShowsVisible m t g → ShowsVisible m t h → g ≡ h
+visible_equal m t g h a b = graph_equal g h
+    (λ i. bool_equal (g.has i) (h.has i) (λ e. (b.vertices i).1 ((a.vertices i).0 e)) (λ e. (a.vertices i).1 ((b.vertices i).0 e)))
+    (λ i j. option_equal (g.edge i j) (h.edge i j) (λ x e. (b.edges i j x).1 ((a.edges i j x).0 e)) (λ x e. (a.edges i j x).1 ((b.edges i j x).0 e)))
 
 suc_pred : (n : ℕ) → 0 < n → n ≡ suc (pred n)
 suc_pred zero l = absurd (omega arith)
@@ -21,7 +37,7 @@ suc_pred (suc n) l = refl
 module _ (clock : ℕ → ℕ) (bound top : ℕ) (m : Marks) (s : Sound bound top m)
     (r t : ℕ) (time : r < bound) (low : t ≤ top) (raise : Raise clock r t) (all : AllSettled clock r top m) where
   abbrev key : Key
-  key = change_key bound (record { stamp = t; time = r })
+  key = raise_key bound r t
 
   bounded : Bounded bound key
   bounded = omega arith
@@ -97,29 +113,29 @@ module _ (clock : ℕ → ℕ) (bound top : ℕ) (m : Marks) (s : Sound bound to
       let shown = edge_there bound top m s key bounded k at e there (after (source_end m e) v.source.ends) (after (target_end m e) v.target.ends) low in
       subst₂ (λ i j. edge_at rows k i j ≡ Some x) o.from o.to (shown ∙ ap Some o.weight)
 
-  pub shows_visible : ShowsVisible m t (graph_at rows k)
+  -- where no row of key i is visible, each is born later or ended before
+  none_found : (i : ℕ) → ((v : ℕ) → VertexVisible m t v → m.key_of v ≢ i) → VertexFound bound m key i false
+  none_found i none v l q = elim (cases_lt t (m.vertex_ins v).stamp) [
+    | inl b ↦ inl (after (m.vertex_ins v) b)
+    | inr b ↦ elim (cases_lt t (m.vertex_del v).stamp) [
+      | inl e ↦ absurd (none v (record { row = l; born = b; ends = e }) q)
+      | inr e ↦ inr (before (m.vertex_del v) (all.vertex_del v) e)
+    ]
+  ]
+
+  shows_visible : ShowsVisible m t (graph_at rows k)
   shows_visible = record {
     vertices = λ i. (vertex_shown i, λ h. vertex_found bound top m s key bounded k at i true (h.0, vertex_there h.0 h.1, h.2));
     edges = λ i j x. (edge_shown i j x, λ h. edge_joins i j x h.0 h.1 h.2);
   }
 
-bool_equal : (a b : Bool) → (a ≡ true → b ≡ true) → (b ≡ true → a ≡ true) → a ≡ b
-bool_equal true b f g = sym (f refl)
-bool_equal false true f g = g refl
-bool_equal false false f g = refl
-
-option_equal : (a b : Option ℕ) → ((x : ℕ) → a ≡ Some x → b ≡ Some x) → ((x : ℕ) → b ≡ Some x → a ≡ Some x) → a ≡ b
-option_equal (Some x) b f g = sym (f x refl)
-option_equal None (Some x) f g = g x refl
-option_equal None None f g = refl
-
--- two graphs that show the visible rows are one
-visible_equal : (m : Marks) (t : ℕ) (g h : Graph) → ShowsVisible m t g → ShowsVisible m t h → g ≡ h
-visible_equal m t g h a b = graph_equal g h
-    (λ i. bool_equal (g.has i) (h.has i) (λ e. (b.vertices i).1 ((a.vertices i).0 e)) (λ e. (a.vertices i).1 ((b.vertices i).0 e)))
-    (λ i j. option_equal (g.edge i j) (h.edge i j) (λ x e. (b.edges i j x).1 ((a.edges i j x).0 e)) (λ x e. (a.edges i j x).1 ((b.edges i j x).0 e)))
+  pub raise_meets : RaiseMeets bound top m key t
+  raise_meets = record {
+    shows = shows_visible;
+    only = λ g visible. visible_equal m t g (graph_at rows k) visible shows_visible;
+    finds = λ v h. (v, vertex_there v h, refl);
+    finds_none = none_found;
+  }
 
 pub raises_show_visible : RaisesShowVisible
-raises_show_visible clock bound top m s r t time low raise all =
-    let shown = shows_visible clock bound top m s r t time low raise all in
-    (shown, λ g visible. visible_equal m t g (raise_graph bound top m r t) visible shown)
+raises_show_visible = raise_meets

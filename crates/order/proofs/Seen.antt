@@ -21,11 +21,11 @@ some_equal f g e = cc
 
 module _ (seen : ℕ → Sight) where
   -- worker w began the call b
-  abbrev Began : ℕ → ℕ → Type 0
+  abbrev pub Began : ℕ → ℕ → Type 0
   Began b w = (c : Call) × (seen b ≡ begins w c)
 
   -- the call of worker w is not finished at time k
-  abbrev GoesOn : ℕ → ℕ → Type 0
+  abbrev pub GoesOn : ℕ → ℕ → Type 0
   GoesOn k w = (a : Answer) (p : Graph) → seen k ≢ finishes w a p
 
   -- an open call was begun just now, or was open and is not finished now

@@ -55,12 +55,12 @@ module _ (bound : ℕ) (m : Marks) (k : Key) where
   -- a row of key i is there, or none is
   abbrev pub VertexFound : ℕ → Bool → Type 0
   VertexFound i true = (r : ℕ) × VertexThere r × (m.key_of r ≡ i)
-  VertexFound i false = (r : ℕ) → m.key_of r ≡ i → After k (m.vertex_ins r) ⊎ Before bound k (m.vertex_del r)
+  VertexFound i false = (r : ℕ) → r < m.vertices → m.key_of r ≡ i → After k (m.vertex_ins r) ⊎ Before bound k (m.vertex_del r)
 
   -- an edge row bound to the vertex rows r and s is there, or none is
   abbrev pub EdgeFound : ℕ → ℕ → Bool → Type 0
   EdgeFound r s true = (e : ℕ) × EdgeThere e × (m.source e ≡ r) × (m.target e ≡ s)
-  EdgeFound r s false = (e : ℕ) → m.source e ≡ r → m.target e ≡ s → After k (m.edge_ins e) ⊎ Before bound k (m.edge_del e)
+  EdgeFound r s false = (e : ℕ) → e < m.edges → m.source e ≡ r → m.target e ≡ s → After k (m.edge_ins e) ⊎ Before bound k (m.edge_del e)
 
 -- what changes at the key k
 module _ (bound top : ℕ) (m : Marks) (k : Key) where

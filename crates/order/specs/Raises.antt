@@ -1,8 +1,10 @@
 -- What a snapshot or reach meets: the graph just before its raise of the clock, by the stamps of the rows.
-use Rattle.std.specs.Prelude.{◌≡◌, ℕ, suc, ◌<◌, ◌≤◌, true, ◌≢◌, ◌↔◌, Some}
+use Rattle.std.specs.Prelude.{◌≡◌, ℕ, suc, ◌<◌, ◌≤◌, true, false, ◌≢◌, ◌↔◌, Some}
 use Rattle.questions.specs.Graph.{Graph}
+use Rattle.order.specs.Keys.{Key}
 use Rattle.order.specs.Marks.{Mark, Marks, Sound, change_key}
 use Rattle.order.specs.Rows.{graph_before}
+use Rattle.order.specs.Finds.{VertexFound}
 
 -- the clock is raised from t at time r
 pub record Raise (clock : ℕ → ℕ) (r t : ℕ) : Type 0 where
@@ -45,12 +47,19 @@ pub record ShowsVisible (m : Marks) (t : ℕ) (g : Graph) : Type 0 where
   pub vertices : (i : ℕ) → (g.has i ≡ true) ↔ ((v : ℕ) × VertexVisible m t v × (m.key_of v ≡ i))
   pub edges : (i j x : ℕ) → (g.edge i j ≡ Some x) ↔ ((e : ℕ) × EdgeVisible m t e × Joins m e i j x)
 
--- the graph just before the key of a raise from t at time r
-abbrev pub raise_graph : ℕ → ℕ → Marks → ℕ → ℕ → Graph
-raise_graph bound top m r t = graph_before bound top m (change_key bound (record { stamp = t; time = r }))
+-- the key of a raise from t at time r
+abbrev pub raise_key : ℕ → ℕ → ℕ → Key
+raise_key bound r t = change_key bound (record { stamp = t; time = r })
 
--- that graph, and no other, shows the rows that are visible at t
+-- what a call with the key k of a raise from t meets
+pub record RaiseMeets (bound top : ℕ) (m : Marks) (k : Key) (t : ℕ) : Type 0 where
+  -- the graph just before the key is that of the rows that are visible at t, and no other graph is
+  pub shows : ShowsVisible m t (graph_before bound top m k)
+  pub only : (g : Graph) → ShowsVisible m t g → g ≡ graph_before bound top m k
+  -- the call finds the vertex of a visible row, and no vertex where no row is visible
+  pub finds : (v : ℕ) → VertexVisible m t v → VertexFound bound m k (m.key_of v) true
+  pub finds_none : (i : ℕ) → ((v : ℕ) → VertexVisible m t v → m.key_of v ≢ i) → VertexFound bound m k i false
+
 abbrev pub RaisesShowVisible : Type 0
 RaisesShowVisible = (clock : ℕ → ℕ) (bound top : ℕ) (m : Marks) → Sound bound top m →
-    (r t : ℕ) → r < bound → t ≤ top → Raise clock r t → AllSettled clock r top m →
-    ShowsVisible m t (raise_graph bound top m r t) × ((g : Graph) → ShowsVisible m t g → g ≡ raise_graph bound top m r t)
+    (r t : ℕ) → r < bound → t ≤ top → Raise clock r t → AllSettled clock r top m → RaiseMeets bound top m (raise_key bound r t) t
