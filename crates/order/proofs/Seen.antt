@@ -121,7 +121,8 @@ module _ (seen : ℕ → Sight) where
     unfolding open_call finish_by
     open_next k b w e = go (seen k) refl
       where
-        go : (s : Sight) → seen k ≡ s → (open_after (seen k) k w (open_call seen k w) ≡ Some b) ⊎ IsSome (finish_after (open_call seen k) (seen k) k b (finish_by seen k b))
+        go : (s : Sight) → seen k ≡ s →
+            (open_after (seen k) k w (open_call seen k w) ≡ Some b) ⊎ IsSome (finish_after (open_call seen k) (seen k) k b (finish_by seen k b))
         go (begins v c) q = elim (cases_eq v w) [ inl x ↦ absurd (let f = alone k v c q in grind arith) | inr x ↦ inl (rw q (grind (arith, nat_tests))) ]
         go (finishes v a p) q = elim (cases_eq v w) [ inl x ↦ inr (rw (q, x) (grind (arith, nat_tests))) | inr x ↦ inl (rw q (grind (arith, nat_tests))) ]
         go neither q = inl (rw q e)
@@ -130,7 +131,9 @@ module _ (seen : ℕ → Sight) where
     open_or_finished zero b w c l e = absurd (omega arith)
     open_or_finished (suc k) b w c l e = elim (cases_lt b k) [
       | inl m ↦ elim (open_or_finished k b w c m e) [ inl f ↦ open_next k b w f | inr f ↦ inr (finish_kept k b f) ]
-      | inr m ↦ inl (let q : k ≡ b = omega arith in subst (λ x. open_call seen (suc k) w ≡ Some x) q (open_begun k w c (subst (λ x. seen x ≡ begins w c) (sym q) e)))
+      | inr m ↦
+          (let q : k ≡ b = omega arith in
+          inl (subst (λ x. open_call seen (suc k) w ≡ Some x) q (open_begun k w c (subst (λ x. seen x ≡ begins w c) (sym q) e))))
     ]
 
 pub pasts_seen : PastsSeen

@@ -16,6 +16,7 @@ pub record Raise (clock : ℕ → ℕ) (r t : ℕ) : Type 0 where
 abbrev pub Settled : (ℕ → ℕ) → ℕ → ℕ → Mark → Type 0
 Settled clock r top x = x.stamp ≤ top → (clock x.time ≤ x.stamp) × (x.time ≢ r)
 
+-- this holds of all changes
 pub record AllSettled (clock : ℕ → ℕ) (r top : ℕ) (m : Marks) : Type 0 where
   pub vertex_ins : (v : ℕ) → Settled clock r top (m.vertex_ins v)
   pub vertex_del : (v : ℕ) → Settled clock r top (m.vertex_del v)
@@ -36,7 +37,7 @@ pub record EdgeVisible (m : Marks) (t e : ℕ) : Type 0 where
   pub source : VertexVisible m t (m.source e)
   pub target : VertexVisible m t (m.target e)
 
--- an edge row that joins key i to key j with the weight x
+-- edge row e joins key i to key j with the weight x
 pub record Joins (m : Marks) (e i j x : ℕ) : Type 0 where
   pub from : m.key_of (m.source e) ≡ i
   pub to : m.key_of (m.target e) ≡ j
@@ -60,6 +61,7 @@ pub record RaiseMeets (bound top : ℕ) (m : Marks) (k : Key) (t : ℕ) : Type 0
   pub finds : (v : ℕ) → VertexVisible m t v → VertexFound bound m k (m.key_of v) true
   pub finds_none : (i : ℕ) → ((v : ℕ) → VertexVisible m t v → m.key_of v ≢ i) → VertexFound bound m k i false
 
+-- a call that raises the clock from t meets the rows that are visible at t
 abbrev pub RaisesShowVisible : Type 0
 RaisesShowVisible = (clock : ℕ → ℕ) (bound top : ℕ) (m : Marks) → Sound bound top m →
     (r t : ℕ) → r < bound → t ≤ top → Raise clock r t → AllSettled clock r top m → RaiseMeets bound top m (raise_key bound r t) t
