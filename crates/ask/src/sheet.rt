@@ -1,6 +1,7 @@
 // A page and a start key, drawn line by line.
-ghost use Rattle.std.specs.Prelude.{◌≡◌};
-ghost use Rattle.ask.specs.Places.{key_at, pair_at, written};
+ghost use Rattle.std.specs.Prelude.{◌≡◌, is_ok, IfErr};
+ghost use Rattle.ask.specs.declared.fault.Fault.TheVariants.{Key};
+ghost use Rattle.ask.specs.Places.{key_at, pair_at, is_cell, written};
 
 use crate::fault::Fault;
 use questions::NOTHING;
@@ -55,7 +56,10 @@ impl Drawn {
 
     // Writes a cell, where there is such a cell.
     fn set(&mut self, at: Option<usize>, value: u32) -> Result<(), Fault>
-        ensures { self.new.cells.items ≡ written self.old.cells.items at value }
+        ensures cells { self.new.cells.items ≡ written self.old.cells.items at value }
+        ensures keys { self.new.keys ≡ self.old.keys }
+        ensures done { is_ok result ≡ is_cell self.old.cells.items at }
+        ensures fault { IfErr result (λ why. why ≡ Key) }
     {
         let at = at.ok_or(Fault::Key)?;
         let cell = self.cells.get_mut(at).ok_or(Fault::Key)?;
