@@ -1,5 +1,6 @@
 // A page and a start key, drawn line by line.
-ghost use Rattle.std.specs.Prelude.{◌≡◌, is_ok, IfErr};
+ghost use Rattle.std.specs.Prelude.{◌≡◌, true, None, is_ok, IfOk, IfErr};
+ghost use Rattle.questions.specs.Pages.{fits};
 ghost use Rattle.ask.specs.declared.fault.Fault.TheVariants.{Key};
 ghost use Rattle.ask.specs.Places.{key_at, pair_at, is_cell, written};
 
@@ -46,7 +47,9 @@ fn weight_of(word: &str) -> Result<u32, Fault> {
 
 impl Drawn {
     // A page of so many keys, with none shown and no edge.
-    fn new(heap: Global, line: &str) -> Result<Drawn, Fault> {
+    fn new(heap: Global, line: &str) -> Result<Drawn, Fault>
+        ensures { IfOk result (λ drawn. fits drawn.cells.items drawn.keys ≡ true) }
+    {
         let keys = line.trim().parse::<usize>().ok();
         let keys = keys.filter(|n| (1..=64).contains(n)).ok_or(Fault::Size)?;
         let mut cells = vec![in heap; 0; keys]?;
@@ -69,7 +72,9 @@ impl Drawn {
 }
 
 impl Sheet {
-    pub fn new() -> Sheet {
+    pub fn new() -> Sheet
+        ensures { (result.page ≡ None) × (result.start ≡ None) }
+    {
         Sheet {
             page: None,
             start: None,
