@@ -1,4 +1,8 @@
 // The answers to the questions from a key.
+ghost use Rattle.std.specs.Prelude.{IfOk};
+ghost use Rattle.questions.specs.Unanswered.{unanswered, Refuses};
+ghost use Rattle.ask.specs.Answers.{AnswersFrom};
+
 use crate::table::text;
 use questions::{GraphView, Page, Total, Unanswered, Weakest, best, order};
 use std::io;
@@ -12,13 +16,16 @@ struct Answers {
     weakest: [Option<u32>; 64],
 }
 
-fn answers_from(page: &Page, start: usize) -> Result<Answers, Unanswered> {
+fn answers_from<G: GraphView>(page: &G, start: usize) -> Result<Answers, Unanswered>
+    ensures answer { Refuses (unanswered (G.keys page.now) (G.graph page.now) start 64) result }
+    ensures after { IfOk result (AnswersFrom (G.graph page.now) (G.keys page.now) start) }
+{
     let mut listed = [0u8; 64];
     let mut total = [None; 64];
     let mut weakest = [None; 64];
     let count = order(page, start, &mut listed)?;
-    best::<Page<'_>, Total, Option<u32>>(page, start, &mut total)?;
-    best::<Page<'_>, Weakest, Option<u32>>(page, start, &mut weakest)?;
+    best::<G, Total, Option<u32>>(page, start, &mut total)?;
+    best::<G, Weakest, Option<u32>>(page, start, &mut weakest)?;
     Ok(Answers {
         listed,
         count,

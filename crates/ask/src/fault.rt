@@ -1,4 +1,7 @@
 // What is wrong with a line.
+ghost use Rattle.std.specs.Prelude.{◌≡◌};
+ghost use Rattle.ask.specs.declared.fault.Fault.TheVariants.{Memory};
+
 use questions::NOTHING;
 use std::alloc::{AllocError, AllocFailed};
 use std::fmt;
@@ -15,12 +18,16 @@ pub enum Fault {
 }
 
 impl From<AllocError> for Fault {
+    ghost from_gives = { λ _ fault. fault ≡ Memory };
+
     fn from(_e: AllocError) -> Fault {
         Fault::Memory
     }
 }
 
 impl<T: Drop> From<AllocFailed<T>> for Fault {
+    ghost from_gives = { λ _ fault. fault ≡ Memory };
+
     fn from(_e: AllocFailed<T>) -> Fault {
         Fault::Memory
     }

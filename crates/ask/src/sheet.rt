@@ -1,6 +1,8 @@
 // A page and a start key, drawn line by line.
-ghost use Rattle.std.specs.Prelude.{◌≡◌};
-ghost use Rattle.ask.specs.Places.{key_at, pair_at, written};
+ghost use Rattle.std.specs.Prelude.{◌≡◌, true, None, is_ok, IfOk, IfErr};
+ghost use Rattle.questions.specs.Pages.{fits};
+ghost use Rattle.ask.specs.declared.fault.Fault.TheVariants.{Key};
+ghost use Rattle.ask.specs.Places.{key_at, pair_at, is_cell, written};
 
 use crate::fault::Fault;
 use questions::NOTHING;
@@ -45,7 +47,9 @@ fn weight_of(word: &str) -> Result<u32, Fault> {
 
 impl Drawn {
     // A page of so many keys, with none shown and no edge.
-    fn new(heap: Global, line: &str) -> Result<Drawn, Fault> {
+    fn new(heap: Global, line: &str) -> Result<Drawn, Fault>
+        ensures { IfOk result (λ drawn. fits drawn.cells.items drawn.keys ≡ true) }
+    {
         let keys = line.trim().parse::<usize>().ok();
         let keys = keys.filter(|n| (1..=64).contains(n)).ok_or(Fault::Size)?;
         let mut cells = vec![in heap; 0; keys]?;
@@ -55,7 +59,10 @@ impl Drawn {
 
     // Writes a cell, where there is such a cell.
     fn set(&mut self, at: Option<usize>, value: u32) -> Result<(), Fault>
-        ensures { self.new.cells.items ≡ written self.old.cells.items at value }
+        ensures cells { self.new.cells.items ≡ written self.old.cells.items at value }
+        ensures keys { self.new.keys ≡ self.old.keys }
+        ensures done { is_ok result ≡ is_cell self.old.cells.items at }
+        ensures fault { IfErr result (λ why. why ≡ Key) }
     {
         let at = at.ok_or(Fault::Key)?;
         let cell = self.cells.get_mut(at).ok_or(Fault::Key)?;
@@ -65,7 +72,9 @@ impl Drawn {
 }
 
 impl Sheet {
-    pub fn new() -> Sheet {
+    pub fn new() -> Sheet
+        ensures { (result.page ≡ None) × (result.start ≡ None) }
+    {
         Sheet {
             page: None,
             start: None,

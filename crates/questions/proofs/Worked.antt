@@ -43,26 +43,22 @@ bounded law b at-s over (on {k} {j} w p e) =
 abbrev Offers : Scale → (ℕ → ℕ) → ℕ → ℕ → Type 0
 Offers m b i j = Over (λ w. NoBetter m (m.extend (b i) w) (b j)) (three.edge i j)
 
-bounded_by : {m : Scale} → Lawful m → (b : ℕ → ℕ) → NoBetter m m.first (b 0) → ((i : ℕ) → i < 3 → (j : ℕ) → j < 3 → Offers m b i j) →
+bounded_by : {m : Scale} → Lawful m → (b : ℕ → ℕ) → NoBetter m m.first (b 0) → Offers m b 0 1 → Offers m b 1 2 → Offers m b 0 2 →
     {k : ℕ} (p : Walk three 0 k) → NoBetter m (along m p) (b k)
-bounded_by {m} law b at-0 offers = bounded law b at-0 (λ i j w e.
+bounded_by {m} law b at-0 first second long = bounded law b at-0 (λ i j w e.
     (let l = inside i j w e in over_edge (λ w. NoBetter m (m.extend (b i) w) (b j)) (three.edge i j) (offers i l.0 j l.1) w e))
+  where
+    offers : (i : ℕ) → i < 3 → (j : ℕ) → j < 3 → Offers m b i j
+    offers = below_three (λ i. (j : ℕ) → j < 3 → Offers m b i j)
+        (below_three (Offers m b 0) tt first long)
+        (below_three (Offers m b 1) tt tt second)
+        (below_three (Offers m b 2) tt tt tt)
 
 total_bound : {k : ℕ} (p : Walk three 0 k) → NoBetter total_scale (along total_scale p) (key (0 ∷ 5 ∷ 7 ∷ []) k)
-total_bound =
-    let b : ℕ → ℕ = key (0 ∷ 5 ∷ 7 ∷ []) in
-    bounded_by total_lawful b refl (below_three (λ i. (j : ℕ) → j < 3 → Offers total_scale b i j)
-    (below_three (Offers total_scale b 0) tt refl refl)
-    (below_three (Offers total_scale b 1) tt tt refl)
-    (below_three (Offers total_scale b 2) tt tt tt))
+total_bound = bounded_by total_lawful (key (0 ∷ 5 ∷ 7 ∷ [])) refl refl refl refl
 
 weakest_bound : {k : ℕ} (p : Walk three 0 k) → NoBetter weakest_scale (along weakest_scale p) (key (4294967295 ∷ 5 ∷ 9 ∷ []) k)
-weakest_bound =
-    let b : ℕ → ℕ = key (4294967295 ∷ 5 ∷ 9 ∷ []) in
-    bounded_by weakest_lawful b refl (below_three (λ i. (j : ℕ) → j < 3 → Offers weakest_scale b i j)
-    (below_three (Offers weakest_scale b 0) tt refl refl)
-    (below_three (Offers weakest_scale b 1) tt tt refl)
-    (below_three (Offers weakest_scale b 2) tt tt tt))
+weakest_bound = bounded_by weakest_lawful (key (4294967295 ∷ 5 ∷ 9 ∷ [])) refl refl refl refl
 
 only : {m : Scale} → Lawful m → {s k : ℕ} {x : Option ℕ} → Entered m three s k x → Only m s k x
 only law {s} {k} {x} e = (e, λ y f. entry_fixed law three s k y x f e)

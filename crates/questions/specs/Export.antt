@@ -8,7 +8,7 @@ use Rattle.questions.specs.Pages.{fits, shown}
 use Rattle.questions.specs.Measures.{Scale}
 use Rattle.questions.specs.Unanswered.{unanswered_code, unanswered}
 use Rattle.questions.specs.Best.{Answered, AnsweredOr}
-use Rattle.questions.specs.Entries.{entry_of}
+use Rattle.questions.specs.Entries.{GivesEntry}
 use Rattle.questions.specs.Order.{Ordered}
 
 -- cells that make no page are refused first
@@ -17,7 +17,7 @@ unanswered_on cells n start area = cond (fits cells n) (unanswered n (shown cell
 
 -- the area holds the entries in the form of C; a question that is not answered leaves it as it was
 abbrev pub EntriesOr : Result (Unit {0}) Unanswered → Scale → List ℕ → ℕ → ℕ → List Entry → List Entry → Type 0
-EntriesOr r m cells n s old new = AnsweredOr r (λ x y. y ≡ entry_of x) m (shown cells n) n s old new
+EntriesOr r m cells n s old new = AnsweredOr r GivesEntry m (shown cells n) n s old new
 
 -- 0 for an answer, or the byte of the reason
 abbrev pub byte_of : Option Unanswered → ℕ
@@ -37,5 +37,5 @@ pub record OrderedAt (r : ℕ) (cells : List ℕ) (n s : ℕ) (old new : List �
   pub refused : (r ≢ 0) → (new ≡ old) × (after ≡ before)
 
 pub record AnsweredAt (r : ℕ) (m : Scale) (cells : List ℕ) (n s : ℕ) (old new : List Entry) : Type 0 where
-  pub answered : r ≡ 0 → Answered (λ x y. y ≡ entry_of x) m (shown cells n) n s old new
+  pub answered : r ≡ 0 → Answered GivesEntry m (shown cells n) n s old new
   pub refused : (r ≢ 0) → new ≡ old

@@ -4,13 +4,17 @@ use Rattle.questions.specs.declared.best_first.Label.{Label}
 use Rattle.questions.specs.Graph.{Graph}
 use Rattle.questions.specs.Measures.{Scale, NoBetter}
 
+-- the label of a key that no walk has reached
+abbrev pub blank : Label
+blank = record { value = None; listed = false }
+
 -- the best value found so far of the walks to a key, if one was found
 abbrev pub value_at : List Label → ℕ → Option ℕ
-value_at xs k = (slice_index_or xs k (record { value = None; listed = false })).value
+value_at xs k = (slice_index_or xs k blank).value
 
 -- whether a key is listed
 abbrev pub listed_at : List Label → ℕ → Bool
-listed_at xs k = (slice_index_or xs k (record { value = None; listed = false })).listed
+listed_at xs k = (slice_index_or xs k blank).listed
 
 -- the flag of a key
 abbrev pub flag : List Bool → ℕ → Bool

@@ -9,7 +9,7 @@ use crate::unanswered::{Unanswered, asked};
 use crate::view::GraphView;
 
 // What the search knows of a key: the best value of the walks found so far, and whether the key is listed.
-#[derive(Clone, Copy, PartialEq, Eq, Debug, Default)]
+#[derive(Clone, Copy, Default)]
 pub struct Label {
     pub value: Option<u32>,
     pub listed: bool,

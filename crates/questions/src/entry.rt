@@ -1,6 +1,5 @@
 // The entry of a key in an answer, for C, which has no option.
-ghost use Rattle.std.specs.Prelude.{◌≡◌};
-ghost use Rattle.questions.specs.Entries.{entry_of};
+ghost use Rattle.questions.specs.Entries.{GivesEntry};
 
 // 1 and the best value of the walks to the key, or 0 and 0 where there is no walk.
 #[derive(Clone, Copy, PartialEq, Eq, Debug)]
@@ -11,7 +10,7 @@ pub struct Entry {
 }
 
 impl From<Option<u32>> for Entry {
-    ghost from_gives = { λ value made. made ≡ entry_of value };
+    ghost from_gives = { GivesEntry };
 
     fn from(value: Option<u32>) -> Entry {
         match value {
