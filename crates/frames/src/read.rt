@@ -56,7 +56,8 @@ fn frame_with<const N: usize>(line: &[u8]) -> Option<Frame>
     frame_of(&decode::<N>(line)?)
 }
 
-// The frame that a line is, or none.
+// The frame that a line is, or none. A frame that goes through memory costs time, hence the hint.
+#[inline(always)]
 pub fn parse(line: &[u8]) -> Option<Frame>
     ensures { result ≡ frame_in (bytes_of line.now) }
 {

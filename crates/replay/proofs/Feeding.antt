@@ -6,7 +6,6 @@ use Rattle.std.proofs.lemmas.List.{length-drop, length-take-le, take-append-drop
 use Rattle.std.proofs.lemmas.List.Recursion.{is_position_or_len}
 use Rattle.frames.specs.Frames.{frame_in}
 use Rattle.frames.specs.Hex.{digit_of, byte_of, joined, bytes_of}
-use Rattle.frames.specs.declared.frame.Frame.{Frame}
 use Rattle.replay.specs.Texts.{feed_at, behind_line}
 
 feed_is : (text : List ℕ) → feed_at text ≡ position_or_len (λ b. b == 10) text

@@ -3,7 +3,8 @@ use Rattle.std.proofs.Common.{◌≡◌, ℕ, ◌+◌, ◌<◌, List, [], ◌∷
 use Rattle.std.proofs.lemmas.List.{append_assoc, take_more_set, drop-set-lt, length-set}
 use Rattle.std.proofs.lemmas.Slice.{take-put_mid, drop-put_mid}
 use borrow.Rule.Slice.PartMut.{put_mid}
-use Rattle.replay.specs.Replayed.{fed, Put}
+use Rattle.session.specs.Lines.{fed}
+use Rattle.replay.specs.Replayed.{Put}
 
 -- `line` put in at `at`, and a line feed behind it
 pub put_line : (old line new : List ℕ) (at k n : ℕ) → new ≡ line → k ≡ length line → n ≡ at + length line → n < length old → length (put_mid at k old new) ≡ length old → Put at (fed line) old (set (put_mid at k old new) n 10) (n + 1)

@@ -7,8 +7,9 @@ use Rattle.frames.specs.declared.frame.Frame.{Frame}
 use Rattle.frames.specs.declared.reply.Reply.{Reply}
 use Rattle.session.specs.Answers.{Replies}
 use Rattle.session.specs.Desks.{Session}
+use Rattle.session.specs.Lines.{fed_line}
 use Rattle.replay.specs.Texts.{line_of, behind_line}
-use Rattle.replay.specs.Replayed.{fed_line, Put, LineReplies, Replayed, Replayed.one_more, Written}
+use Rattle.replay.specs.Replayed.{Put, LineReplies, Replayed, Replayed.one_more, Written}
 
 -- some lines on: from a session and a text to a session, the rest and k bytes
 pub record Through (d : Session) (text old : List ℕ) (e : Session) (rest new : List ℕ) (k : ℕ) : Type 0 where

@@ -1,20 +1,12 @@
 -- A text replied to line by line, into an area.
-use Rattle.std.specs.Prelude.{◌≡◌, ℕ, ◌+◌, ◌<◌, ◌≤◌, ◌⊎◌, List, [], ◌∷◌, ◌++◌, length, take, drop, Some, None, Option}
+use Rattle.std.specs.Prelude.{◌≡◌, ℕ, ◌+◌, ◌<◌, ◌≤◌, ◌⊎◌, List, [], ◌++◌, length, take, drop, Some, None, Option}
 use Rattle.frames.specs.Frames.{frame_in}
 use Rattle.frames.specs.Hex.{bytes_of}
-use Rattle.frames.specs.Replies.{reply_line}
 use Rattle.frames.specs.declared.reply.Reply.{Reply}
 use Rattle.session.specs.Answers.{Replies}
 use Rattle.session.specs.Desks.{Session}
+use Rattle.session.specs.Lines.{fed_line}
 use Rattle.replay.specs.Texts.{line_of, behind_line}
-
--- a line with its line feed
-abbrev pub fed : List ℕ → List ℕ
-fed line = line ++ (10 ∷ [])
-
--- the line of a reply, with its line feed
-abbrev pub fed_line : Reply → List ℕ
-fed_line r = fed (reply_line r)
 
 -- a text written from a place on, to its end at n; what stands in front and behind stays
 pub record Put (at : ℕ) (text old new : List ℕ) (n : ℕ) : Type 0 where

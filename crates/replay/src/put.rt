@@ -1,6 +1,7 @@
 // Writing a reply line into an area.
 ghost use Rattle.std.specs.Prelude.{◌≤◌, length};
-ghost use Rattle.replay.specs.Replayed.{fed, fed_line, PutWhole};
+ghost use Rattle.session.specs.Lines.{fed, fed_line};
+ghost use Rattle.replay.specs.Replayed.{PutWhole};
 
 use frames::{Line, Reply};
 use session::lines::LINE_FEED;
