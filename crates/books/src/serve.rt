@@ -10,7 +10,7 @@ use places::place::{Job, Leg, Survey};
 use std::ops::ControlFlow;
 
 // The answer of a finished page.
-pub fn survey_done(survey: Survey) -> Answer
+fn survey_done(survey: Survey) -> Answer
     ensures { result ≡ survey_done survey }
 {
     match survey {
@@ -70,7 +70,7 @@ impl Book {
     }
 
     // On to the next pair to walk, from the one of the key at a place and key `to` on, or the answer.
-    pub fn serve(
+    pub(crate) fn serve(
         &self,
         survey: Survey,
         sizes: Sizes,
@@ -86,7 +86,12 @@ impl Book {
     }
 
     // On to the next pair after one, or the answer.
-    pub fn serve_after(&self, survey: Survey, sizes: Sizes, leg: Leg) -> ControlFlow<Answer, Job>
+    pub(crate) fn serve_after(
+        &self,
+        survey: Survey,
+        sizes: Sizes,
+        leg: Leg,
+    ) -> ControlFlow<Answer, Job>
         ensures { walk_or survey result ≡ serve_from self.now survey sizes.keys (leg_number sizes.keys leg + 1) }
     {
         self.serve(survey, sizes, leg.place, leg.to as u16 + 1)
