@@ -1,0 +1,4 @@
+pub mod Memory
+pub mod Courses
+pub mod Visible
+pub mod Walking

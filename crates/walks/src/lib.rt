@@ -1,0 +1,9 @@
+// What the walks of a snapshot or reach find, and what its page shows.
+#![tactic(auto)]
+
+ghost use Rattle.walks.specs.Walking.{WalksFind};
+
+// A walk down the rows of a head finds the row that is visible at the number of the raise, or no row.
+pub fn walks_find_visible_rows()
+    ensures { WalksFind }
+{}
