@@ -1,3 +1,12 @@
 mod Times
 mod Chains
 mod Walking
+mod Drafts
+mod Known
+mod Counts
+mod Later
+mod Serves
+mod Fills
+mod Resolves
+mod Starts
+mod Jobs

@@ -2,3 +2,5 @@ pub mod Memory
 pub mod Courses
 pub mod Visible
 pub mod Walking
+pub mod Pages
+pub mod Surveys

@@ -71,8 +71,7 @@ pub record Walking (c : Course) (top t : ℕ) (w : Walk) (from till : ℕ) (plac
   pub turns : (k : ℕ) → from ≤ k → k < till → (place (suc k) ≡ place k) ⊎
       ((next_in top (c.at k) t (place k) ≡ next.Out (Continue (place (suc k)))) × Done top (c.at k) (c.at (suc k)) (touch_of (place k) None))
 
--- a walk that ends by a turn at time `till` has found the row of its head that is visible at t, or no row
+-- a walk that ends at time `till` has found the row of its head that is visible at t, or no row
 abbrev pub WalksFind : Type 0
 WalksFind = (c : Course) (n : ℕ) → Laws c n → (top t : ℕ) (w : Walk) (from till : ℕ) (place : ℕ → Place) → Walking c top t w from till place →
-    from ≤ till → (v : Walk) (r : ℕ) → Done top (c.at till) (c.at (suc till)) (touch_of (place till) None) →
-    next_in top (c.at till) t (place till) ≡ next.Walked v r → (v ≡ w) × Found c t (suc till) (job_head w.job) r
+    from ≤ till → (v : Walk) (r : ℕ) → next_in top (c.at till) t (place till) ≡ next.Walked v r → (v ≡ w) × Found c t till (job_head w.job) r
