@@ -1,5 +1,5 @@
 -- The book and the page of a worker as functions: what is shown, walked and queued.
-use Rattle.std.proofs.Common.{◌≡◌, ℕ, zero, suc, ◌+◌, ◌<◌, ◌≢◌, Bool, true, false, cond, ◌&&◌, eqb, length, get_or, set, replicate, Some, is_some, unwrap_or, List, refl, sym, ◌∙◌, subst, inl, inr, arith, length-set, get_or-set_same, get_or-set_other}
+use Rattle.std.proofs.Common.{◌≡◌, ℕ, zero, suc, ◌+◌, ◌<◌, ◌≢◌, Bool, true, false, cond, ◌&&◌, eqb, length, get_or, set, replicate, Some, is_some, unwrap_or, List, refl, sym, ap, ◌∙◌, subst, inl, inr, arith, length-set, get_or-set_same, get_or-set_other}
 use Rattle.std.proofs.lemmas.Bool.{cases_eq, lt-ltb}
 use Rattle.std.proofs.lemmas.Bool.Decides.{nat_tests}
 use Rattle.layout.specs.Rows.{no_row}
@@ -89,13 +89,14 @@ pub record Kept (b : Book) (p : Page) : Type 0 where
 same_put : (f : ℕ → ℕ) (k j : ℕ) → put_at f k (f k) j ≡ f j
 same_put f k j = at_put (λ y z. z ≡ f y) f k (f k) refl (λ y d. refl) j
 
+-- of a blank book nothing is known
+pub blank_key : (k m : ℕ) → get_or (replicate m unknown) k unknown ≡ unknown
+blank_key k zero = refl
+blank_key zero (suc m) = refl
+blank_key (suc k) (suc m) = blank_key k m
+
 pub kept_blank : (t : ℕ) → Kept (blank t) clear
-kept_blank t = record { keys = refl; queue = refl; page = λ k. sym (blank_key k 64) }
-  where
-    blank_key : (k m : ℕ) → (get_or (replicate m unknown) k unknown).shown ≡ no_row
-    blank_key k zero = refl
-    blank_key zero (suc m) = refl
-    blank_key (suc k) (suc m) = blank_key k m
+kept_blank t = record { keys = refl; queue = refl; page = λ k. sym (ap (λ (s : KeyState). s.shown) (blank_key k 64)) }
 
 module _ (b : Book) (p : Page) (k : ℕ) (h : Kept b p) (small : k < 64) where
   -- the state of a key that is set

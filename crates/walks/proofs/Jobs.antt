@@ -22,7 +22,7 @@ use Rattle.walks.specs.Visible.{Found}
 use Rattle.walks.specs.Pages.{Page, with_key}
 use Rattle.walks.proofs.Drafts.{at_puts, put_here, put_there, Draft, draft_of, walk_in, Kept, draft_walked, kept_walked}
 use Rattle.walks.proofs.Known.{NoEdge, Queued, Serving, Turning, Rising, Leaving, IsLeg, KnowsJob}
-use Rattle.walks.proofs.Serves.{KnowsOut, walks_on, answers, serve_knows}
+use Rattle.walks.proofs.Serves.{start_absent, KnowsOut, walks_on, answers, serve_knows}
 use Rattle.walks.proofs.Fills.{in_queue}
 use Rattle.walks.proofs.Resolves.{KnowsWalked, found_stays, next_none, to_small, resolved_knows}
 use Rattle.walks.proofs.Starts.{draft_is, kept_book, raise_is, rising, all_keys, starts}
@@ -90,7 +90,7 @@ module _ (c : Course) (n : ℕ) (law : Laws c n) (some_key : 0 < n) (few : n ≤
           (record { book = walked_joined b i r; out = serve_from (walked_joined b i r) v n 0; entry = entry.Key i r }))
       by_test true q =
           let none : r ≡ no_row = grind (arith, nat_tests) in
-          record { out = answers VertexAbsent (i, e, rw none at f); kept = kept; raise = refl }
+          record { out = answers VertexAbsent (start_absent i e (rw none at f)); kept = kept; raise = refl }
       by_test false q = record {
         out = rw e (serve_knows c n law k (Reach i) book page 0 (omega arith) (serves (grind (arith, nat_tests))));
         kept = kept_book c n law some_key few k b p kept i r small room;

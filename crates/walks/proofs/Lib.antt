@@ -10,3 +10,5 @@ mod Fills
 mod Resolves
 mod Starts
 mod Jobs
+mod Surveys
+mod Answers

@@ -3,7 +3,7 @@ use Rattle.std.proofs.Common.{◌≡◌, ℕ, zero, suc, ◌+◌, ◌-◌, ◌*�
 use Rattle.std.proofs.lemmas.Bool.{cases_lt}
 use Rattle.std.proofs.lemmas.Bool.Decides.{nat_tests}
 use Rattle.codes.specs.declared.answer.Answer.{Answer}
-use Rattle.codes.specs.declared.answer.Answer.TheVariants.{VertexAbsent, SnapshotTaken, ReachTaken, ClockSpent}
+use Rattle.codes.specs.declared.answer.Answer.TheVariants.{VertexAbsent, SnapshotTaken, ReachTaken}
 use Rattle.layout.specs.Rows.{no_row}
 use Rattle.layout.specs.declared.names.Head.TheVariants as head
 use Rattle.places.specs.declared.place.Survey.{Survey}
@@ -22,13 +22,11 @@ use Rattle.walks.proofs.Times.{ordered}
 use Rattle.walks.proofs.Drafts.{Draft, draft_of}
 use Rattle.walks.proofs.Known.{NoEdge, Shown, nothing, Served, Serving, KnowsJob}
 
--- what an answer comes with
-abbrev pub Ended : Course → ℕ → ℕ → Survey → Book → Page → Answer → Type 0
-Ended c n k v b p SnapshotTaken = (v ≡ Snapshot) × Serving c n k v (draft_of b p) (n * b.len)
-Ended c n k v b p ReachTaken = ((i : ℕ) × (v ≡ Reach i)) × Serving c n k v (draft_of b p) (n * b.len)
-Ended c n k v b p VertexAbsent = (i : ℕ) × (v ≡ Reach i) × Found c b.t k (head.Vertex i) no_row
-Ended c n k v b p ClockSpent = Unit {0}
-Ended c n k v b p a = ⊥
+-- what an answer comes with after a raise
+pub data Ended (c : Course) (n k : ℕ) (v : Survey) (b : Book) (p : Page) : Answer → Type 0 where
+  all_shown : v ≡ Snapshot → Serving c n k v (draft_of b p) (n * b.len) → Ended c n k v b p SnapshotTaken
+  part_shown : (i : ℕ) → v ≡ Reach i → Serving c n k v (draft_of b p) (n * b.len) → Ended c n k v b p ReachTaken
+  start_absent : (i : ℕ) → v ≡ Reach i → Found c b.t k (head.Vertex i) no_row → Ended c n k v b p VertexAbsent
 
 -- on to a walk, or an answer
 pub data KnowsOut (c : Course) (n k : ℕ) (v : Survey) (b : Book) (p : Page) : Out → Type 0 where
@@ -109,8 +107,8 @@ module _ (c : Course) (n : ℕ) (law : Laws c n) (k : ℕ) where
   }
 
   ended_with : (v : Survey) (b : Book) (p : Page) → Serving c n k v (draft_of b p) (n * b.len) → Ended c n k v b p (survey_done v)
-  ended_with Snapshot b p s = (refl, s)
-  ended_with (Reach i) b p s = ((i, refl), s)
+  ended_with Snapshot b p s = all_shown refl s
+  ended_with (Reach i) b p s = part_shown i refl s
 
   -- on from pair number x
   pub serve_knows : (v : Survey) (b : Book) (p : Page) (x : ℕ) → x ≤ n * b.len → Serving c n k v (draft_of b p) x → KnowsOut c n k v b p (serve_from b v n x)

@@ -1,9 +1,15 @@
 // What the walks of a snapshot or reach find, and what its page shows.
 #![tactic(auto)]
 
+ghost use Rattle.walks.specs.Surveys.{PagesStand};
 ghost use Rattle.walks.specs.Walking.{WalksFind};
 
 // A walk down the rows of a head finds the row that is visible at the number of the raise, or no row.
 pub fn walks_find_visible_rows()
     ensures { WalksFind }
+{}
+
+// Every answer of a snapshot or reach, and its page, is right of the graph at the number of its raise.
+pub fn pages_show_visible_rows()
+    ensures { PagesStand }
 {}
