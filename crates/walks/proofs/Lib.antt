@@ -1,4 +1,5 @@
 mod Times
+mod Steps
 mod Chains
 mod Walking
 mod Drafts

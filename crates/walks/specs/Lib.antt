@@ -4,3 +4,4 @@ pub mod Visible
 pub mod Walking
 pub mod Pages
 pub mod Surveys
+pub mod Steps

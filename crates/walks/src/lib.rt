@@ -1,8 +1,14 @@
 // What the walks of a snapshot or reach find, and what its page shows.
 #![tactic(auto)]
 
+ghost use Rattle.walks.specs.Steps.{StepsGiveLaws};
 ghost use Rattle.walks.specs.Surveys.{PagesStand};
 ghost use Rattle.walks.specs.Walking.{WalksFind};
+
+// What walks use of the memory over time follows from what each step does to it.
+pub fn steps_give_laws()
+    ensures { StepsGiveLaws }
+{}
 
 // A walk down the rows of a head finds the row that is visible at the number of the raise, or no row.
 pub fn walks_find_visible_rows()
