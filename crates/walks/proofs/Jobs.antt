@@ -155,34 +155,72 @@ module _ (c : Course) (n : ℕ) (law : Laws c n) (some_key : 0 < n) (few : n ≤
       by_test false false a e g i = none (source_none (grind (arith, nat_tests)) (grind (arith, nat_tests)))
       by_test false true a e g i = by_seen (grind (arith, nat_tests)) (grind (arith, nat_tests)) a i
 
+  -- the walk of a target goes into the book
+  module _ (v : Survey) (l : Leg) (e r : ℕ) (know : KnowsJob c n k v b p (job.Target l e)) (f : Found c b.t k (head.Vertex l.to) r) where
+    leg : IsLeg c n b l
+    leg = know.0
+
+    s : Serving c n k v d (leg_number n l)
+    s = know.1.sofar
+
+    target_small : l.to < n
+    target_small = to_small c n law some_key few k b p kept l leg
+
+    draft_row : draft_of (with_row b l.to r) p ≡ walk_in d l.to r
+    draft_row = draft_walked b p l.to kept (omega (arith, target_small)) r
+
+    other : (y : ℕ) → 0 < d.key y → y ≢ l.to
+    other y w a = (let q = know.3 in absurd (grind (arith, (s.joined y w).seen)))
+
+    walked_mode : (w : Survey) → (draft_of b p).seen l.to ≡ false → Queued c n w d → Queued c n w (walk_in d l.to r)
+    walked_mode Snapshot q m = absurd (grind (arith, (m.2 l.to target_small).0))
+    walked_mode (Reach i) q m = m
+
+    pub target_serves : Serving c n k v (draft_of (with_row b l.to r) p) (leg_number n l)
+    target_serves = rw draft_row (record {
+      rows = at_puts (λ y u w. y < n → u ≡ true → Found c b.t k (head.Vertex y) w) d.seen d.row l.to true r (λ a u. f) (λ y q a u. s.rows y a u);
+      joined = λ y w. (
+          let g = s.joined y w in
+          record {
+            small = g.small;
+            seen = put_there d.seen l.to true y (other y w) ∙ g.seen;
+            row = g.row ∙ sym (put_there d.row l.to r y (other y w));
+            place = g.place;
+            within = g.within;
+            queued = g.queued;
+            reached = g.reached;
+          });
+      queued = s.queued;
+      mode = walked_mode v know.3 s.mode;
+      cells = s.cells;
+      served = λ y a m. let g = s.served y a m in record { shown = g.shown; leads = g.leads };
+    })
+
   target_knows : (v : Survey) (l : Leg) (e r : ℕ) (h : Hand) → KnowsJob c n k v b p (job.Target l e) → Found c b.t k (head.Vertex l.to) r →
       HandOf (c.at k) e h → KnowsWalked c n k v b.t p (resolved (with_row b l.to r) v n l h)
   target_knows v l e r h (leg, turn, lv, o) f of =
-      resolved_knows c n law some_key few k (with_row b l.to r) p kept_row l leg e h target weight turn.within z seen leaving v serves
+      resolved_knows c n law some_key few k (with_row b l.to r) p kept_row l leg e h target weight turn.within z seen leaving v (target_serves v l e r (leg, turn, lv, o) f)
     where
-      s : Serving c n k v d (leg_number n l)
-      s = turn.sofar
-
       small : l.to < n
       small = to_small c n law some_key few k b p kept l leg
 
       small_key : l.to < 64
       small_key = omega (arith, small)
 
-      draft_row : draft_of (with_row b l.to r) p ≡ walk_in d l.to r
-      draft_row = draft_walked b p l.to kept small_key r
+      is : draft_of (with_row b l.to r) p ≡ walk_in d l.to r
+      is = draft_walked b p l.to kept small_key r
 
       kept_row : Kept (with_row b l.to r) p
       kept_row = kept_walked b p l.to kept small_key r
 
       key_same : (draft_of (with_row b l.to r) p).key ≡ d.key
-      key_same = ap (λ (a : Draft). a.key) draft_row
+      key_same = ap (λ (a : Draft). a.key) is
 
       z : 0 < (draft_of (with_row b l.to r) p).key l.from
       z = subst (λ g. 0 < g l.from) (sym key_same) (from_shown v l leg turn)
 
       seen : (draft_of (with_row b l.to r) p).seen l.to ≡ true
-      seen = ap (λ (a : Draft). a.seen l.to) draft_row ∙ put_here d.seen l.to true
+      seen = ap (λ (a : Draft). a.seen l.to) is ∙ put_here d.seen l.to true
 
       linked : Linked c k (head.Edge l.from l.to) e
       linked = (found_stays c b.t k (head.Edge l.from l.to) e lv.row lv.edge k (omega arith)).linked
@@ -195,33 +233,6 @@ module _ (c : Course) (n : ℕ) (law : Laws c n) (some_key : 0 < n) (few : n ≤
 
       leaving : Leaving c n k (draft_of (with_row b l.to r) p) l e
       leaving = record { row = lv.row; edge = lv.edge; source = lv.source ∙ ap (λ g. g l.from) (sym key_same) }
-
-      other : (y : ℕ) → 0 < d.key y → y ≢ l.to
-      other y w a = absurd (grind (arith, (s.joined y w).seen))
-
-      mode : (v : Survey) → Queued c n v d → Queued c n v (walk_in d l.to r)
-      mode Snapshot m = absurd (grind (arith, (m.2 l.to small).0))
-      mode (Reach i) m = m
-
-      serves : Serving c n k v (draft_of (with_row b l.to r) p) (leg_number n l)
-      serves = rw draft_row (record {
-        rows = at_puts (λ y u w. y < n → u ≡ true → Found c b.t k (head.Vertex y) w) d.seen d.row l.to true r (λ a u. f) (λ y q a u. s.rows y a u);
-        joined = λ y w. (
-            let g = s.joined y w in
-            record {
-              small = g.small;
-              seen = put_there d.seen l.to true y (other y w) ∙ g.seen;
-              row = g.row ∙ sym (put_there d.row l.to r y (other y w));
-              place = g.place;
-              within = g.within;
-              queued = g.queued;
-              reached = g.reached;
-            });
-        queued = s.queued;
-        mode = mode v s.mode;
-        cells = s.cells;
-        served = λ y a m. let g = s.served y a m in record { shown = g.shown; leads = g.leads };
-      })
 
   -- a walk has found row r
   pub found_knows : (v : Survey) (j : Job) (r : ℕ) (h : Hand) → KnowsJob c n k v b p j → Found c b.t k (job_head j) r → HandFits (c.at k) j r h →

@@ -13,3 +13,9 @@ mod Starts
 mod Jobs
 mod Surveys
 mod Answers
+mod Sums
+mod Paces
+mod Costs
+mod Spends
+mod Turns
+mod Limits

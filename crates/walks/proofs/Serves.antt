@@ -57,7 +57,7 @@ module _ (b : Book) (v : Survey) (n : ℕ) where
       by_test true q o = first x (omega arith) (omega arith) (λ z l m. absurd (omega arith)) q
       by_test false q o = after q _ o
 
-  opened : (x : ℕ) → x ≤ n * b.len → Opened b v n x (open_from b v n x)
+  pub opened : (x : ℕ) → x ≤ n * b.len → Opened b v n x (open_from b v n x)
   opened x l = first_opened (n * b.len - x) x (omega arith)
 
   -- the number of the leg of pair number y

@@ -126,10 +126,10 @@ module _ (c : Course) (n : ℕ) (law : Laws c n) (some_key : 0 < n) (few : n ≤
     abbrev hand : Hand
     hand = hand_in (c.at k) s.book.t s.place
 
-    now : s.book.t < (c.at k).clock
+    pub now : s.book.t < (c.at k).clock
     now = omega (arith, raised.was.2, clock_mono c n law (suc raised.time) k raised.before)
 
-    hand_fits : (i : Job) → j ≡ i → (r : ℕ) → KnowsJob c n k v s.book s.page i → (r ≡ no_row) ⊎ (job_edge i r ≡ edge_row s.place) → HandFits (c.at k) i r hand
+    pub hand_fits : (i : Job) → j ≡ i → (r : ℕ) → KnowsJob c n k v s.book s.page i → (r ≡ no_row) ⊎ (job_edge i r ≡ edge_row s.place) → HandFits (c.at k) i r hand
     hand_fits (job.Key i) q r w o = tt
     hand_fits (job.Start i) q r w o = tt
     hand_fits (job.Pair l) q r w (inl o) = λ z. absurd (omega arith)

@@ -5,3 +5,4 @@ pub mod Walking
 pub mod Pages
 pub mod Surveys
 pub mod Steps
+pub mod Budgets

@@ -1,6 +1,7 @@
 // What the walks of a snapshot or reach find, and what its page shows.
 #![tactic(auto)]
 
+ghost use Rattle.walks.specs.Budgets.{TurnsFit};
 ghost use Rattle.walks.specs.Steps.{StepsGiveLaws};
 ghost use Rattle.walks.specs.Surveys.{PagesStand};
 ghost use Rattle.walks.specs.Walking.{WalksFind};
@@ -18,4 +19,9 @@ pub fn walks_find_visible_rows()
 // Every answer of a snapshot or reach, and its page, is right of the graph at the number of its raise.
 pub fn pages_show_visible_rows()
     ensures { PagesStand }
+{}
+
+// A snapshot or reach of n keys takes at most 1 + 8 · n · n turns, and one for each row that is linked.
+pub fn turns_stay_within_limit()
+    ensures { TurnsFit }
 {}
