@@ -19,3 +19,4 @@ mod Costs
 mod Spends
 mod Turns
 mod Limits
+mod Worked

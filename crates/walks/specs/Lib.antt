@@ -6,3 +6,4 @@ pub mod Pages
 pub mod Surveys
 pub mod Steps
 pub mod Budgets
+pub mod Worked

@@ -5,6 +5,7 @@ ghost use Rattle.walks.specs.Budgets.{TurnsFit};
 ghost use Rattle.walks.specs.Steps.{StepsGiveLaws};
 ghost use Rattle.walks.specs.Surveys.{PagesStand};
 ghost use Rattle.walks.specs.Walking.{WalksFind};
+ghost use Rattle.walks.specs.Worked.{Worked};
 
 // What walks use of the memory over time follows from what each step does to it.
 pub fn steps_give_laws()
@@ -24,4 +25,9 @@ pub fn pages_show_visible_rows()
 // A snapshot or reach of n keys takes at most 1 + 8 · n · n turns, and one for each row that is linked.
 pub fn turns_stay_within_limit()
     ensures { TurnsFit }
+{}
+
+// What is asked of a run can be had.
+pub fn worked_case_stands()
+    ensures { Worked }
 {}
