@@ -20,3 +20,4 @@ mod Spends
 mod Turns
 mod Limits
 mod Worked
+mod Runs

@@ -7,3 +7,4 @@ pub mod Surveys
 pub mod Steps
 pub mod Budgets
 pub mod Worked
+pub mod Turns

@@ -7,7 +7,10 @@ use Rattle.places.specs.declared.place.Survey.{Survey}
 use Rattle.places.specs.declared.place.Survey.TheVariants.{Snapshot, Reach}
 use Rattle.places.specs.declared.place.Hand.{Hand}
 use Rattle.places.specs.declared.place.Place.{Place}
-use Rattle.places.specs.declared.place.Place.TheVariants.{Raise, WalkHead}
+use Rattle.places.specs.declared.place.Place.TheVariants.{Settle, Raise, WalkHead}
+use Rattle.places.specs.declared.place.Stage.TheVariants.{First}
+use Rattle.places.specs.declared.place.Purpose.TheVariants.{Own}
+use Rattle.layout.specs.declared.names.Field.TheVariants.{Ins}
 use Rattle.places.specs.Moved.{Next, Next as next}
 use Rattle.places.specs.Outs.{Out}
 use Rattle.places.specs.Touches.{touch_of}
@@ -38,10 +41,11 @@ pub record Going : Type 0 where
 abbrev pub served : Page → Outcome → Going
 served p o = record { out = o.out; book = o.book; page = written p o.entry }
 
--- A raise clears the page and starts the first walk. A walk that has ended goes into the book and the page. A snapshot or reach links no row.
+-- A raise clears the page and starts the first walk. A walk that has ended goes into the book and the page. The ins of a linked row is settled; a
+-- snapshot or reach links none.
 abbrev pub going : ℕ → Surveyor → Hand → Next → Going
 going n s h (next.Out o) = record { out = o; book = s.book; page = s.page }
-going n s h (next.Linked c r) = record { out = Continue s.place; book = s.book; page = s.page }
+going n s h (next.Linked c r) = record { out = Continue (Settle First (Own Ins c r)); book = s.book; page = s.page }
 going n s h (next.Raised v t) = record { out = Continue (WalkHead (record { survey = v; job = first_job v })); book = blank t; page = clear }
 going n s h (next.Walked k r) = served s.page (walked_of s.book k n r h)
 

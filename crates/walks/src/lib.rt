@@ -4,6 +4,7 @@
 ghost use Rattle.walks.specs.Budgets.{TurnsFit};
 ghost use Rattle.walks.specs.Steps.{StepsGiveLaws};
 ghost use Rattle.walks.specs.Surveys.{PagesStand};
+ghost use Rattle.walks.specs.Turns.{TurnsGo};
 ghost use Rattle.walks.specs.Walking.{WalksFind};
 ghost use Rattle.walks.specs.Worked.{Worked};
 
@@ -25,6 +26,11 @@ pub fn pages_show_visible_rows()
 // A snapshot or reach of n keys takes at most 1 + 8 · n · n turns, and one for each row that is linked.
 pub fn turns_stay_within_limit()
     ensures { TurnsFit }
+{}
+
+// A turn of a worker of a run answers, and moves the worker's place, book and page, as a turn of a worker that makes a page.
+pub fn turns_go()
+    ensures { TurnsGo }
 {}
 
 // What is asked of a run can be had.
