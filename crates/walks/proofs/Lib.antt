@@ -20,4 +20,5 @@ mod Spends
 mod Turns
 mod Limits
 mod Worked
+mod Effects
 mod Runs

@@ -26,6 +26,7 @@ use Rattle.walks.specs.Walking.{hand_in, next_in}
 use Rattle.walks.specs.Pages.{Page, page_of, written}
 use Rattle.walks.specs.Surveys.{going}
 use Rattle.walks.specs.Turns.{surveyor_of, goes, InSurvey, at_raise, at_head, at_older, at_field, place_then, TurnGoes, TurnsGo}
+use Rattle.walks.proofs.Effects.{effect}
 
 -- the same after any turn
 record Follows (n : ℕ) (v : Worker) (p : Page) (h : Hand) (x : Next) : Type 0 where
@@ -97,4 +98,4 @@ module _ (s : State) (w : ℕ) (fit : Fit s w) where
       (let f = follows s.sizes.keys (worker_at s w) (page_of s w) (hand_at s w) (next_at s w) in record { answer = f.answer; place = f.place; book = f.book; page = f.page })
 
 pub turns_go : TurnsGo
-turns_go s w fit i = turn_goes s w fit i
+turns_go s w fit i = (turn_goes s w fit i, effect s w fit i)

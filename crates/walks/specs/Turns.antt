@@ -10,12 +10,12 @@ use Rattle.places.specs.declared.place.Place.{Place}
 use Rattle.places.specs.declared.place.Place.TheVariants.{Idle, Settle, Raise, WalkHead, WalkOlder}
 use Rattle.places.specs.Outs.{Out}
 use Rattle.stepper.specs.States.{State}
-use Rattle.stepper.specs.Turns.{worker_at, followed_at, answer_at}
+use Rattle.stepper.specs.Turns.{worker_at, followed_at, answer_at, turned}
 use Rattle.stepper.specs.Workers.{out_answer}
 use Rattle.laws.specs.Fits.{Fit}
 use Rattle.walks.specs.Memory.{memory_of}
 use Rattle.walks.specs.Pages.{page_of, written}
-use Rattle.walks.specs.Surveys.{Surveyor, Going, turn_of}
+use Rattle.walks.specs.Surveys.{Surveyor, Going, turn_of, TurnDone}
 
 -- worker w of a state
 abbrev pub surveyor_of : State → ℕ → Surveyor
@@ -43,5 +43,7 @@ pub record TurnGoes (s : State) (w : ℕ) (g : Going) : Type 0 where
   pub book : (followed_at s w).worker.book ≡ g.book
   pub page : written (page_of s w) (followed_at s w).entry ≡ g.page
 
+-- this holds of every turn of a worker that fits, and it does to the memory what a turn of a snapshot or reach does
 abbrev pub TurnsGo : Type 0
-TurnsGo = (s : State) (w : ℕ) → Fit s w → InSurvey (worker_at s w).place → TurnGoes s w (goes s w)
+TurnsGo = (s : State) (w : ℕ) → Fit s w → InSurvey (worker_at s w).place →
+    TurnGoes s w (goes s w) × TurnDone s.sizes.top (memory_of s) (memory_of (turned s w)) (surveyor_of s w)
