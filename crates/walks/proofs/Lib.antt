@@ -22,3 +22,4 @@ mod Limits
 mod Worked
 mod Effects
 mod Runs
+mod Told

@@ -8,3 +8,4 @@ pub mod Steps
 pub mod Budgets
 pub mod Worked
 pub mod Turns
+pub mod Told

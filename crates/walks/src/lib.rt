@@ -4,6 +4,7 @@
 ghost use Rattle.walks.specs.Budgets.{TurnsFit};
 ghost use Rattle.walks.specs.Steps.{StepsGiveLaws};
 ghost use Rattle.walks.specs.Surveys.{PagesStand};
+ghost use Rattle.walks.specs.Told.{MarksShow};
 ghost use Rattle.walks.specs.Turns.{TurnsGo};
 ghost use Rattle.walks.specs.Walking.{WalksFind};
 ghost use Rattle.walks.specs.Worked.{Worked};
@@ -31,6 +32,11 @@ pub fn turns_stay_within_limit()
 // A turn of a worker of a run answers, and moves the worker's place, book and page, as a turn of a worker that makes a page.
 pub fn turns_go()
     ensures { TurnsGo }
+{}
+
+// A graph of the rows that are visible by the marks of a run is one of the rows that are visible by its memory.
+pub fn marks_show_visible_rows()
+    ensures { MarksShow }
 {}
 
 // What is asked of a run can be had.
