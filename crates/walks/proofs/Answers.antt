@@ -177,7 +177,7 @@ module _ (c : Course) (n : ℕ) (law : Laws c n) (k l : ℕ) (u : k ≤ l) (b : 
     )
 
 -- what an answer says
-says : (c : Course) (n : ℕ) → Laws c n → (k l : ℕ) → k ≤ l → (v : Survey) (a : Answer) (b : Book) (p : Page) → Kept b p → (g : Graph) → Stands c b.t l g → Ended c n k v b p a →
+pub says : (c : Course) (n : ℕ) → Laws c n → (k l : ℕ) → k ≤ l → (v : Survey) (a : Answer) (b : Book) (p : Page) → Kept b p → (g : Graph) → Stands c b.t l g → Ended c n k v b p a →
     Says a v g (graph_of n p)
 says c n law k l u v a b p kept g st (all_shown e s) = rw e (snapshot_right c n law k l u b p kept g st (rw e at s))
 says c n law k l u v a b p kept g st (part_shown i e s) = rw e (reach_right c n law k l u b p kept g st i (rw e at s))

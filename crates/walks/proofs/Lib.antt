@@ -23,3 +23,4 @@ mod Worked
 mod Effects
 mod Runs
 mod Told
+mod Placed

@@ -9,3 +9,4 @@ pub mod Budgets
 pub mod Worked
 pub mod Turns
 pub mod Told
+pub mod Placed

@@ -2,6 +2,7 @@
 #![tactic(auto)]
 
 ghost use Rattle.walks.specs.Budgets.{TurnsFit};
+ghost use Rattle.walks.specs.Placed.{PagesShowRaise};
 ghost use Rattle.walks.specs.Steps.{StepsGiveLaws};
 ghost use Rattle.walks.specs.Surveys.{PagesStand};
 ghost use Rattle.walks.specs.Told.{MarksShow};
@@ -38,6 +39,13 @@ pub fn turns_go()
 pub fn marks_show_visible_rows()
     ensures { MarksShow }
 {}
+
+// So every answer but 41, and its page, is right of the graph just before the key of the raise.
+pub fn pages_show_raise_graph()
+    ensures { PagesShowRaise }
+{
+    order::raises_show_visible_rows();
+}
 
 // What is asked of a run can be had.
 pub fn worked_case_stands()
