@@ -12,7 +12,7 @@ mod Resolves
 mod Starts
 mod Jobs
 mod Surveys
-mod Answers
+mod Right
 mod Sums
 mod Paces
 mod Costs

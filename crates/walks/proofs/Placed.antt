@@ -9,7 +9,7 @@ use Rattle.walks.specs.Surveys.{Going, turn_of}
 use Rattle.walks.specs.Placed.{RightAtRaise, PagesShowRaise}
 use Rattle.walks.proofs.Times.{clock_mono}
 use Rattle.walks.proofs.Surveys.{Answered, with_page, clock_spent, answered}
-use Rattle.walks.proofs.Answers.{says}
+use Rattle.walks.proofs.Right.{says}
 use Rattle.walks.proofs.Told.{marks_show}
 
 right_at_raise : RaisesShowVisible → (c : Course) (n : ℕ) → Laws c n → (v : Survey) (began k : ℕ) (a : Answer) (g : Going) → a ≢ ClockSpent →

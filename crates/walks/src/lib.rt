@@ -30,7 +30,7 @@ pub fn turns_stay_within_limit()
     ensures { TurnsFit }
 {}
 
-// A turn of a worker of a run answers, and moves the worker's place, book and page, as a turn of a worker that makes a page.
+// A turn of a worker of a run answers, moves the worker, writes into its page and changes the memory as a turn of a worker that makes a page.
 pub fn turns_go()
     ensures { TurnsGo }
 {}

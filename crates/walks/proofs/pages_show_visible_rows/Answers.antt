@@ -1,4 +1,4 @@
-use Rattle.walks.proofs.Answers.{pages_stand}
+use Rattle.walks.proofs.Right.{pages_stand}
 use Rattle.walks.proofs.pages_show_visible_rows.Goals as goal
 
 pub returns : goal.returns
