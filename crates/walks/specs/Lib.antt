@@ -1,0 +1,12 @@
+pub mod Memory
+pub mod Courses
+pub mod Visible
+pub mod Walking
+pub mod Pages
+pub mod Surveys
+pub mod Steps
+pub mod Budgets
+pub mod Worked
+pub mod Turns
+pub mod Told
+pub mod Placed
