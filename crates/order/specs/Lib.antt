@@ -1,0 +1,12 @@
+pub mod Graph
+pub mod Past
+pub mod Order
+pub mod Placed
+pub mod Keys
+pub mod Marks
+pub mod Rows
+pub mod Finds
+pub mod Marked
+pub mod Raises
+pub mod Seen
+pub mod Worked

@@ -1,0 +1,78 @@
+-- What can be seen of a run at each time, and the past that it gives.
+use Rattle.std.specs.Prelude.{◌≡◌, ℕ, zero, suc, ◌<◌, Bool, false, cond, ◌⊎◌, Some, None, Option, IsSome, ◌==◌, nat_lt}
+use Rattle.codes.specs.declared.answer.Answer.{Answer}
+use Rattle.places.specs.declared.place.Call.{Call}
+use Rattle.questions.specs.Graph.{Graph}
+use Rattle.order.specs.Past.{Finish, Past}
+
+-- a worker begins a call; a worker's call is finished with an answer, while its page shows a graph; or neither
+pub data Sight : Type 0 where
+  begins : (worker : ℕ) (c : Call) → Sight
+  finishes : (worker : ℕ) (a : Answer) (page : Graph) → Sight
+  neither : Sight
+
+-- the call that worker w has open after what is seen at time k, by the time at which it began
+abbrev pub open_after : Sight → ℕ → ℕ → Option ℕ → Option ℕ
+open_after (begins v c) k w before = cond (v == w) (Some k) before
+open_after (finishes v a p) k w before = cond (v == w) None before
+open_after neither k w before = before
+
+-- the call that worker w has open at a time
+unfoldable pub open_call : (ℕ → Sight) → ℕ → ℕ → Option ℕ
+open_call seen zero w = None
+open_call seen (suc k) w = open_after (seen k) k w (open_call seen k w)
+
+-- a worker has the call b open
+abbrev pub is_open : Option ℕ → ℕ → Bool
+is_open None b = false
+is_open (Some a) b = a == b
+
+-- how the call b was finished after what is seen at time k, where the workers have these calls open
+abbrev pub finish_after : (ℕ → Option ℕ) → Sight → ℕ → ℕ → Option Finish → Option Finish
+finish_after opens (begins w c) k b before = before
+finish_after opens (finishes w a p) k b before = cond (is_open (opens w) b) (Some (record { time = k; answer = a; page = p })) before
+finish_after opens neither k b before = before
+
+-- how the call b was finished, if it was before a time
+unfoldable pub finish_by : (ℕ → Sight) → ℕ → ℕ → Option Finish
+finish_by seen zero b = None
+finish_by seen (suc k) b = finish_after (open_call seen k) (seen k) k b (finish_by seen k b)
+
+-- the call that is seen to begin
+abbrev pub call_begun : Sight → Option Call
+call_begun (begins w c) = Some c
+call_begun s = None
+
+-- the past up to now, with the stamps of the changes and the numbers of the raises
+abbrev pub past_of : (ℕ → Sight) → ℕ → (ℕ → Option ℕ) → (ℕ → Option ℕ) → Past
+past_of seen now stamp raise = record {
+  begun = λ b. cond (nat_lt b now) (call_begun (seen b)) None;
+  finish = finish_by seen now;
+  stamp = stamp;
+  raise = raise;
+}
+
+-- a worker begins a call only while it has none open
+abbrev pub OneAtATime : (ℕ → Sight) → Type 0
+OneAtATime seen = (k w : ℕ) (c : Call) → seen k ≡ begins w c → open_call seen k w ≡ None
+
+-- the worker w began the call b, and its call was finished by f
+pub record FinishSeen (seen : ℕ → Sight) (now b : ℕ) (f : Finish) : Type 0 where
+  pub worker : ℕ
+  pub call : Call
+  pub begun : seen b ≡ begins worker call
+  pub after : b < f.time
+  pub finished : seen f.time ≡ finishes worker f.answer f.page
+  pub before : f.time < now
+
+-- what the past tells was seen
+pub record PastSeen (seen : ℕ → Sight) (now : ℕ) : Type 0 where
+  -- a call that was finished was begun before, by the worker whose call was seen to be finished
+  pub finished : (b : ℕ) (f : Finish) → finish_by seen now b ≡ Some f → FinishSeen seen now b f
+  -- a call that began is open or finished, and not both
+  pub open_or_finished : (b w : ℕ) (c : Call) → b < now → seen b ≡ begins w c → (open_call seen now w ≡ Some b) ⊎ IsSome (finish_by seen now b)
+  pub not_both : (b w : ℕ) → open_call seen now w ≡ Some b → finish_by seen now b ≡ None
+
+-- where workers begin one call at a time
+abbrev pub PastsSeen : Type 0
+PastsSeen = (seen : ℕ → Sight) → OneAtATime seen → (now : ℕ) → PastSeen seen now
