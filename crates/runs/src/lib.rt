@@ -2,8 +2,29 @@
 #![tactic(auto)]
 
 ghost use Rattle.runs.specs.Runs.{HistoriesAreRuns};
+ghost use Rattle.runs.specs.Steps.{RunsStep};
+ghost use Rattle.runs.specs.Times.{RunsLast};
+
+use laws::{runs_keep_laws, runs_sound, runs_stamp};
 
 // Every history of begins and turns is the history of a run, up to a time.
 pub fn histories_are_runs()
     ensures { HistoriesAreRuns }
 {}
+
+// What one step of a run does to the clock, to heads and to linked rows.
+pub fn runs_step()
+    ensures { RunsStep }
+{
+    runs_sound();
+    runs_keep_laws();
+    runs_stamp();
+}
+
+// What holds of a run from one time to a later one.
+pub fn runs_last()
+    ensures { RunsLast }
+{
+    runs_stamp();
+    runs_step();
+}
