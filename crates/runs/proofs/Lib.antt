@@ -5,3 +5,12 @@ mod Turns
 mod TurnSteps
 mod Steps
 mod Times
+mod Kept
+mod Heads
+mod Looks
+mod Settled
+mod Swaps
+mod Own
+mod After
+mod Opens
+mod Knows

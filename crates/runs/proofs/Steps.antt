@@ -7,6 +7,12 @@ use Rattle.codes.specs.declared.refusal.Refusal.TheVariants.{NoSuchWorker, Worke
 use Rattle.layout.specs.declared.names.Kind.{Kind}
 use Rattle.layout.specs.declared.names.Kind.TheVariants.{Vertex, Edge}
 use Rattle.layout.specs.declared.names.Field.{Field}
+use Rattle.layout.specs.declared.names.Field.TheVariants.{Ins}
+use Rattle.places.specs.declared.place.Change.{Change}
+use Rattle.places.specs.declared.place.Stage.TheVariants as stage
+use Rattle.places.specs.declared.place.Purpose.TheVariants as purpose
+use Rattle.places.specs.declared.place.Place.TheVariants as place
+use Rattle.places.specs.Touches.{change_head, change_kind}
 use Rattle.layout.specs.declared.names.Cell.{Cell}
 use Rattle.layout.specs.declared.names.Cell.TheVariants as cell
 use Rattle.layout.specs.declared.sizes.Sizes.{Sizes}
@@ -20,25 +26,28 @@ use Rattle.stepper.specs.declared.request.Request.{Request}
 use Rattle.stepper.specs.declared.request.Request.TheVariants as request
 use Rattle.stepper.specs.declared.worker.PageState.{PageState}
 use Rattle.stepper.specs.declared.worker.PageState.TheVariants as page
+use Rattle.stepper.specs.declared.request.Reply.TheVariants as reply
 use Rattle.stepper.specs.States.{State}
 use Rattle.stepper.specs.Opening.{opened_state}
-use Rattle.stepper.specs.Turns.{worker_at, cell_at, turned}
-use Rattle.stepper.specs.Workers.{nobody, linked_of}
-use Rattle.stepper.specs.Requests.{is_idle, page_free, begun_as, begun, state_begun, turn_refused, state_or, stepped}
+use Rattle.stepper.specs.Turns.{worker_at, cell_at, followed_at, answer_at, turned}
+use Rattle.stepper.specs.Effects.{linked_cells}
+use Rattle.stepper.specs.Workers.{nobody, at, counted, linked_of}
+use Rattle.stepper.specs.Requests.{is_idle, page_free, done_or, answered_or, unless_refused, begun_as, begun, state_begun, turn_refused, state_or, reply_of, stepped}
 use Rattle.laws.specs.Fits.{Linked}
-use Rattle.laws.specs.Changes.{number_in}
+use Rattle.laws.specs.Changes.{next_own, number_in}
+use Rattle.laws.specs.Laws.{TurnLaws}
 use Rattle.laws.specs.Sound.{Sound, RunsSound, RunsKeepLaws}
 use Rattle.laws.specs.Stamps.{IsStamp, Moves, StampLaws, RunsStamp}
 use Rattle.runs.specs.Runs.{Run, history_at}
-use Rattle.runs.specs.Steps.{HeadSteps.stays, MarkSteps.same, StepLaws, RunsStep}
+use Rattle.runs.specs.Steps.{LinkStep, HeadSteps.stays, MarkSteps.same, StepLaws, RunsStep}
 use Rattle.runs.proofs.Histories.{traced}
-use Rattle.runs.proofs.TurnSteps.{turn_step}
+use Rattle.runs.proofs.TurnSteps.{linking, turn_step}
 
 -- what a request can do to the state
 pub data StepCase (s : State) (q : Request) (t : State) : Type 0 where
-  keeps : t ≡ s → StepCase s q t
-  begins : (b : Begin) (c : Call) → q ≡ request.Begin b → begun_as s b ≡ Ok c → t ≡ state_begun s b.worker (Ok c) → StepCase s q t
-  turns : (w : ℕ) → q ≡ request.Turn w → turn_refused s w ≡ None → t ≡ turned s w → StepCase s q t
+  keeps : (x : Refusal) → reply_of s q ≡ reply.Refused x → t ≡ s → StepCase s q t
+  begins : (b : Begin) (c : Call) → q ≡ request.Begin b → begun_as s b ≡ Ok c → reply_of s q ≡ reply.Done → t ≡ state_begun s b.worker (Ok c) → StepCase s q t
+  turns : (w : ℕ) → q ≡ request.Turn w → turn_refused s w ≡ None → reply_of s q ≡ answered_or (Ok (answer_at s w)) → t ≡ turned s w → StepCase s q t
 
 -- a turn that is not refused is of a worker that there is
 pub turn_taken : (s : State) (w : ℕ) → turn_refused s w ≡ None → w < s.sizes.workers
@@ -48,13 +57,13 @@ pub step_case : (s : State) (q : Request) → StepCase s q (stepped s q)
 step_case s (request.Begin b) = go (begun_as s b) refl
   where
     go : (r : Result Call Refusal) → begun_as s b ≡ r → StepCase s (request.Begin b) (state_begun s b.worker r)
-    go (Ok c) e = begins b c refl e refl
-    go (Err x) e = keeps refl
+    go (Ok c) e = begins b c refl e (ap done_or e) refl
+    go (Err x) e = keeps x (ap done_or e) refl
 step_case s (request.Turn w) = go (turn_refused s w) refl
   where
     go : (r : Option Refusal) → turn_refused s w ≡ r → StepCase s (request.Turn w) (state_or r s (turned s w))
-    go None e = turns w refl e refl
-    go (Some x) e = keeps refl
+    go None e = turns w refl e (ap (λ r. answered_or (unless_refused r (answer_at s w))) e) refl
+    go (Some x) e = keeps x (ap (λ r. answered_or (unless_refused r (answer_at s w))) e) refl
 
 ok_if : {X E : Type 0} (t : Bool) (r : Result X E) (e : E) (x : X) → cond t r (Err e) ≡ Ok x → (t ≡ true) × (r ≡ Ok x)
 ok_if true r e x h = (refl, h)
@@ -137,22 +146,37 @@ module _ (sound : RunsSound) (keep : RunsKeepLaws) (stamp : RunsStamp) (R : Run)
     weight = λ r l. numbers_same (R.state k) (R.state (suc k)) e (cell.Weight r);
   }
 
-  turning : (k w : ℕ) → R.request k ≡ request.Turn w → turn_refused (R.state k) w ≡ None → R.state (suc k) ≡ turned (R.state k) w → StepLaws R k
-  turning k w q n e =
-      let m = stamps_at k in
-      let here : w < (R.state k).sizes.workers = turn_taken (R.state k) w n in
-      turn_step R k w q (subst (λ (y : Sizes). w < y.workers) m.sizes here) m.sizes e (sound_at k) (keep R.sizes R.cells R.room (history_at R k) (R.state k) (traced R k) w here)
-      (subst (λ z. (n : ℕ) → IsStamp z n → ¬ (n ≡ 0) × ¬ (n ≡ pending)) m.sizes m.apart)
-      (subst (λ z. (c : Kind) (f : Field) (r : ℕ) → Linked (R.state k) c r → Moves z f (number_in (R.state k) (cell.Stamp c f r)) (number_in (turned (R.state k) w) (cell.Stamp c f r))) m.sizes (m.turns w here))
-      (m.starts w here)
+  module _ (k w : ℕ) (q : R.request k ≡ request.Turn w) (n : turn_refused (R.state k) w ≡ None) (e : R.state (suc k) ≡ turned (R.state k) w) where
+    pub here : w < (R.state k).sizes.workers
+    here = turn_taken (R.state k) w n
+
+    pub within : w < R.sizes.workers
+    within = subst (λ (y : Sizes). w < y.workers) (sizes_at k) here
+
+    laws_at : TurnLaws (R.state k) w
+    laws_at = keep R.sizes R.cells R.room (history_at R k) (R.state k) (traced R k) w here
+
+    pub apart_at : (n : ℕ) → IsStamp R.sizes n → ¬ (n ≡ 0) × ¬ (n ≡ pending)
+    apart_at = subst (λ z. (n : ℕ) → IsStamp z n → ¬ (n ≡ 0) × ¬ (n ≡ pending)) (sizes_at k) (stamps_at k).apart
+
+    moves_at : (c : Kind) (f : Field) (r : ℕ) → Linked (R.state k) c r → Moves R.sizes f (number_in (R.state k) (cell.Stamp c f r)) (number_in (turned (R.state k) w) (cell.Stamp c f r))
+    moves_at = subst (λ z. (c : Kind) (f : Field) (r : ℕ) → Linked (R.state k) c r → Moves z f (number_in (R.state k) (cell.Stamp c f r)) (number_in (turned (R.state k) w) (cell.Stamp c f r))) (sizes_at k) ((stamps_at k).turns w here)
+
+    turning : StepLaws R k
+    turning = turn_step R k w q within (sizes_at k) e (sound_at k) laws_at apart_at moves_at ((stamps_at k).starts w here)
+
+    -- a link turn that won
+    pub won_step : (d : Change) (h r : ℕ) → (worker_at (R.state k) w).place ≡ place.Link d h → next_own (R.state k) w (change_kind d) ≡ Some r → number_in (R.state k) (cell.Head (change_head d)) ≡ h
+        → (followed_at (R.state k) w).worker ≡ at (counted (worker_at (R.state k) w) (change_kind d)) (place.Settle stage.First (purpose.Own Ins d r)) → (turned (R.state k) w).cells ≡ linked_cells (R.state k).sizes (R.state k).cells d h r → LinkStep R k d r
+    won_step = linking R k w q within (sizes_at k) e (sound_at k) laws_at apart_at moves_at ((stamps_at k).starts w here)
 
   pub step_laws : (k : ℕ) → StepLaws R k
   step_laws k = go (case_at k)
     where
       go : StepCase (R.state k) (R.request k) (R.state (suc k)) → StepLaws R k
-      go (keeps e) = still k (subst (SameRows (R.state k)) (sym e) (record { cells = refl; sizes = refl; counts = λ v k. refl }))
-      go (begins b c q a e) = still k (subst (SameRows (R.state k)) (sym e) (record { cells = refl; sizes = refl; counts = begun_counts (R.state k) (sound_at k) b.worker (begin_taken (R.state k) b c a).within c }))
-      go (turns w q n e) = turning k w q n e
+      go (keeps x f e) = still k (subst (SameRows (R.state k)) (sym e) (record { cells = refl; sizes = refl; counts = λ v k. refl }))
+      go (begins b c q a f e) = still k (subst (SameRows (R.state k)) (sym e) (record { cells = refl; sizes = refl; counts = begun_counts (R.state k) (sound_at k) b.worker (begin_taken (R.state k) b c a).within c }))
+      go (turns w q n f e) = turning k w q n e
 
 pub runs_step : RunsSound → RunsKeepLaws → RunsStamp → RunsStep
 runs_step sound keep stamp R k = step_laws sound keep stamp R k

@@ -86,7 +86,7 @@ module _ (step : RunsStep) (R : Run) where
   }
 
 -- each item of a list of copies is the copy, or the one that stands for none
-copies : {A : Type 0} (P : A → Type 0) (m i : ℕ) (x d : A) → P x → P d → P (get_or (replicate m x) i d)
+pub copies : {A : Type 0} (P : A → Type 0) (m i : ℕ) (x d : A) → P x → P d → P (get_or (replicate m x) i d)
 copies P zero i x d a b = b
 copies P (suc m) zero x d a b = a
 copies P (suc m) (suc i) x d a b = copies P m i x d a b

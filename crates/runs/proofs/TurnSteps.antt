@@ -146,7 +146,7 @@ module _ (R : Run) (k w : ℕ) (asked : R.request k ≡ Turn w) (b : w < R.sizes
         next_time (λ u. number_in u (cell.Weight r) ≡ b.pair.weight) (held (cell.Weight r) b.pair.weight n (λ e. absurd cc) (filled_weight s.sizes s.cells z.cells h r b n)),
       )
 
-  linking : (d : Change) (h r : ℕ) → (worker_at s w).place ≡ place.Link d h → next_own s w (change_kind d) ≡ Some r → number_in s (cell.Head (change_head d)) ≡ h
+  pub linking : (d : Change) (h r : ℕ) → (worker_at s w).place ≡ place.Link d h → next_own s w (change_kind d) ≡ Some r → number_in s (cell.Head (change_head d)) ≡ h
       → (followed_at s w).worker ≡ at (counted (worker_at s w) (change_kind d)) (place.Settle stage.First (purpose.Own Ins d r)) → t.cells ≡ linked_cells s.sizes s.cells d h r → LinkStep R k d r
   linking d h r p q g v x = link_step d h r p q g v x (bound_step d h r p q g v x)
 

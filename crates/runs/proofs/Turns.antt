@@ -66,7 +66,7 @@ module _ (s : State) (w : ℕ) where
     one_linked : (d : Change) (h r : ℕ) → (worker_at s w).place ≡ place.Link d h → next_own s w (change_kind d) ≡ Some r → number_in s (cell.Head (change_head d)) ≡ h
         → (followed_at s w).worker ≡ at (counted (worker_at s w) (change_kind d)) (place.Settle stage.First (purpose.Own Ins d r)) → (turned s w).cells ≡ linked_cells s.sizes s.cells d h r → TurnLinks
 
-is_done : (b : Bool) (x : ℕ) → is_some (then_some b x) ≡ b
+pub is_done : (b : Bool) (x : ℕ) → is_some (then_some b x) ≡ b
 is_done true x = refl
 is_done false x = refl
 

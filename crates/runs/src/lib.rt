@@ -1,6 +1,7 @@
 // Runs as functions of time, and what holds of them over time.
 #![tactic(auto)]
 
+ghost use Rattle.runs.specs.Reasons.{RunsKnow};
 ghost use Rattle.runs.specs.Runs.{HistoriesAreRuns};
 ghost use Rattle.runs.specs.Steps.{RunsStep};
 ghost use Rattle.runs.specs.Times.{RunsLast};
@@ -27,4 +28,15 @@ pub fn runs_last()
 {
     runs_stamp();
     runs_step();
+}
+
+// Every worker knows what its place says, and every answer of a call on vertices or edges is right.
+pub fn runs_know()
+    ensures { RunsKnow }
+{
+    runs_sound();
+    runs_keep_laws();
+    runs_stamp();
+    runs_step();
+    runs_last();
 }
