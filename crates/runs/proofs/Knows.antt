@@ -53,7 +53,7 @@ module _ (sound : RunsSound) (keep : RunsKeepLaws) (stamp : RunsStamp) (step : R
   abbrev Knows : ℕ → Type 0
   Knows k = (j : ℕ) → j < suc k → (w : ℕ) → w < R.sizes.workers → WorkerKnows R j w
 
-  fits_at : (k w : ℕ) → w < R.sizes.workers → FitPlace (R.state k) (place_at R k w)
+  pub fits_at : (k w : ℕ) → w < R.sizes.workers → FitPlace (R.state k) (place_at R k w)
   fits_at k w l = (sound_at sound keep stamp R k).places w (subst (λ (z : Sizes). w < z.workers) (sym (sizes_at sound keep stamp R k)) l)
 
   -- a worker that the step leaves alone

@@ -14,3 +14,6 @@ mod Own
 mod After
 mod Opens
 mod Knows
+mod Events
+mod EdgeEvents
+mod Ends

@@ -1,6 +1,7 @@
 // Runs as functions of time, and what holds of them over time.
 #![tactic(auto)]
 
+ghost use Rattle.runs.specs.Events.{RunsEvents};
 ghost use Rattle.runs.specs.Reasons.{RunsKnow};
 ghost use Rattle.runs.specs.Runs.{HistoriesAreRuns};
 ghost use Rattle.runs.specs.Steps.{RunsStep};
@@ -39,4 +40,16 @@ pub fn runs_know()
     runs_stamp();
     runs_step();
     runs_last();
+}
+
+// When rows are linked and ended, and in which order.
+pub fn runs_events()
+    ensures { RunsEvents }
+{
+    runs_sound();
+    runs_keep_laws();
+    runs_stamp();
+    runs_step();
+    runs_last();
+    runs_know();
 }
