@@ -138,10 +138,10 @@ module _ (sound : RunsSound) (keep : RunsKeepLaws) (stamp : RunsStamp) (step : R
   pub linked_on : {p b : ℕ} {d : Change} {r : ℕ} → LinkEvent R p b d r → (k : ℕ) → p < k → LinkedAt R k (change_kind d) r
   linked_on {p} {b} {d} {r} ev k l = linked_later (suc p) k (change_kind d) r l ev.step.linked
 
-  link_change : {c d : Change} {h g : ℕ} → place.Link c h ≡ place.Link d g → c ≡ d
+  pub link_change : {c d : Change} {h g : ℕ} → place.Link c h ≡ place.Link d g → c ≡ d
   link_change e = cc
 
-  end_change : {c d : Change} {h g : ℕ} → place.End c h ≡ place.End d g → c ≡ d
+  pub end_change : {c d : Change} {h g : ℕ} → place.End c h ≡ place.End d g → c ≡ d
   end_change e = cc
 
   -- a row is linked once, and ends once

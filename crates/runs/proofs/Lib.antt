@@ -17,3 +17,7 @@ mod Knows
 mod Events
 mod EdgeEvents
 mod Ends
+mod Decides
+mod Births
+mod MarkLaws
+mod MarkSound

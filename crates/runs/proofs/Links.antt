@@ -122,7 +122,7 @@ module _ (s : State) where
   pub next_is_row : (w : ℕ) (k : Kind) (r : ℕ) → next_own s w k ≡ Some r → IsRow s.sizes k r × Owns s.sizes k w r
   next_is_row w k r e = own_row s.sizes k w (linked_of (worker_at s w) k) r e
 
-  row_is : (k : Kind) (w n r : ℕ) → row_at s.sizes k w n ≡ Some r → w * rows_each s.sizes k + n + 1 ≡ r
+  pub row_is : (k : Kind) (w n r : ℕ) → row_at s.sizes k w n ≡ Some r → w * rows_each s.sizes k + n + 1 ≡ r
   row_is k w n r e = grind arith
 
   pub next_not_linked : (w : ℕ) (k : Kind) (r : ℕ) → next_own s w k ≡ Some r → ¬ (Linked s k r)

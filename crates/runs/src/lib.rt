@@ -2,6 +2,7 @@
 #![tactic(auto)]
 
 ghost use Rattle.runs.specs.Events.{RunsEvents};
+ghost use Rattle.runs.specs.Marking.{RunsMarked};
 ghost use Rattle.runs.specs.Reasons.{RunsKnow};
 ghost use Rattle.runs.specs.Runs.{HistoriesAreRuns};
 ghost use Rattle.runs.specs.Steps.{RunsStep};
@@ -52,4 +53,17 @@ pub fn runs_events()
     runs_step();
     runs_last();
     runs_know();
+}
+
+// At each time the rows of a run have marks that keep the laws of marks.
+pub fn runs_marked()
+    ensures { RunsMarked }
+{
+    runs_sound();
+    runs_keep_laws();
+    runs_stamp();
+    runs_step();
+    runs_last();
+    runs_know();
+    runs_events();
 }
