@@ -21,3 +21,5 @@ mod Decides
 mod Births
 mod MarkLaws
 mod MarkSound
+mod Carries
+mod Once

@@ -3,6 +3,7 @@
 
 ghost use Rattle.runs.specs.Events.{RunsEvents};
 ghost use Rattle.runs.specs.Marking.{RunsMarked};
+ghost use Rattle.runs.specs.Once.{RunsChangeOnce};
 ghost use Rattle.runs.specs.Reasons.{RunsKnow};
 ghost use Rattle.runs.specs.Runs.{HistoriesAreRuns};
 ghost use Rattle.runs.specs.Steps.{RunsStep};
@@ -66,4 +67,16 @@ pub fn runs_marked()
     runs_last();
     runs_know();
     runs_events();
+}
+
+// A call makes one change, and its place tells which.
+pub fn runs_change_once()
+    ensures { RunsChangeOnce }
+{
+    runs_sound();
+    runs_keep_laws();
+    runs_stamp();
+    runs_step();
+    runs_last();
+    runs_know();
 }
