@@ -23,3 +23,4 @@ mod MarkLaws
 mod MarkSound
 mod Carries
 mod Once
+mod Sights

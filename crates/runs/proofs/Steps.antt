@@ -65,7 +65,7 @@ step_case s (request.Turn w) = go (turn_refused s w) refl
     go None e = turns w refl e (ap (λ r. answered_or (unless_refused r (answer_at s w))) e) refl
     go (Some x) e = keeps x (ap (λ r. answered_or (unless_refused r (answer_at s w))) e) refl
 
-ok_if : {X E : Type 0} (t : Bool) (r : Result X E) (e : E) (x : X) → cond t r (Err e) ≡ Ok x → (t ≡ true) × (r ≡ Ok x)
+pub ok_if : {X E : Type 0} (t : Bool) (r : Result X E) (e : E) (x : X) → cond t r (Err e) ≡ Ok x → (t ≡ true) × (r ≡ Ok x)
 ok_if true r e x h = (refl, h)
 ok_if false r e x h = absurd cc
 

@@ -5,11 +5,13 @@ ghost use Rattle.runs.specs.Events.{RunsEvents};
 ghost use Rattle.runs.specs.Marking.{RunsMarked};
 ghost use Rattle.runs.specs.Once.{RunsChangeOnce};
 ghost use Rattle.runs.specs.Reasons.{RunsKnow};
+ghost use Rattle.runs.specs.Sights.{RunsSeen};
 ghost use Rattle.runs.specs.Runs.{HistoriesAreRuns};
 ghost use Rattle.runs.specs.Steps.{RunsStep};
 ghost use Rattle.runs.specs.Times.{RunsLast};
 
 use laws::{runs_keep_laws, runs_sound, runs_stamp};
+use order::pasts_tell_what_was_seen;
 
 // Every history of begins and turns is the history of a run, up to a time.
 pub fn histories_are_runs()
@@ -79,4 +81,15 @@ pub fn runs_change_once()
     runs_step();
     runs_last();
     runs_know();
+}
+
+// What is seen of a run agrees with its states, and a past made of it tells what was seen.
+pub fn runs_seen()
+    ensures { RunsSeen }
+{
+    runs_sound();
+    runs_keep_laws();
+    runs_stamp();
+    runs_know();
+    pasts_tell_what_was_seen();
 }
