@@ -81,13 +81,13 @@ module _ (sound : RunsSound) (keep : RunsKeepLaws) (stamps : RunsStamp) (step : 
   abbrev Bears : Kind → Field → ℕ → Type 0
   Bears c f r = LinkedAt R N c r × Stamped R N c f r
 
-  born_or : (c : Kind) (r : ℕ) → Birth c r ⊎ ¬ (Bears c Ins r)
+  pub born_or : (c : Kind) (r : ℕ) → Birth c r ⊎ ¬ (Bears c Ins r)
   born_or c r =
       ⊎_elim
       (λ (l : LinkedAt R N c r). ⊎_elim (λ (e : (n : ℕ) × (mark_at R N c Ins r ≡ Stamp n)). inl (birth c r e.0 l e.1)) (λ (a : ¬ ((n : ℕ) × (mark_at R N c Ins r ≡ Stamp n))). inr (λ x. a (x.1.number, x.1.is))) (stamped_or (mark_at R N c Ins r)))
       (λ (n : ¬ (LinkedAt R N c r)). inr (λ x. n x.0)) (linked_or (R.state N) c r)
 
-  ended_or : (c : Kind) (r : ℕ) → End c r ⊎ ¬ (Bears c Del r)
+  pub ended_or : (c : Kind) (r : ℕ) → End c r ⊎ ¬ (Bears c Del r)
   ended_or c r =
       ⊎_elim
       (λ (l : LinkedAt R N c r). ⊎_elim (λ (e : (n : ℕ) × (mark_at R N c Del r ≡ Stamp n)). inl (end c r e.0 l e.1)) (λ (a : ¬ ((n : ℕ) × (mark_at R N c Del r ≡ Stamp n))). inr (λ x. a (x.1.number, x.1.is))) (stamped_or (mark_at R N c Del r)))

@@ -24,3 +24,4 @@ mod MarkSound
 mod Carries
 mod Once
 mod Sights
+mod VertexFinds

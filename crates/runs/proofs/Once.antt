@@ -47,23 +47,23 @@ module _ (sound : RunsSound) (keep : RunsKeepLaws) (stamps : RunsStamp) (step : 
   made_of f d r = record { field = f; change = d; row = r }
 
   -- the turn of a change
-  record ByTurn (p b : ℕ) : Type 0 where
+  pub record ByTurn (p b : ℕ) : Type 0 where
     pub worker : ℕ
     pub asked : R.request p ≡ request.Turn worker
     pub within : worker < R.sizes.workers
     pub whose : open_at R p worker ≡ Some b
 
-  by_turn : (f : Field) (p b : ℕ) (d : Change) (r : ℕ) → ChangeEvent R f p b d r → ByTurn p b
+  pub by_turn : (f : Field) (p b : ℕ) (d : Change) (r : ℕ) → ChangeEvent R f p b d r → ByTurn p b
   by_turn Ins p b d r ev = record { worker = ev.step.worker; asked = ev.step.turn.asked; within = ev.step.turn.within; whose = ev.whose }
   by_turn Del p b d r ev = record { worker = ev.worker; asked = ev.turn.asked; within = ev.turn.within; whose = ev.whose }
 
-  same_some : {a b : ℕ} → Some a ≡ Some b → a ≡ b
+  pub same_some : {a b : ℕ} → Some a ≡ Some b → a ≡ b
   same_some e = cc
 
   none_some : {b : ℕ} → None ≡ Some b → ⊥
   none_some e = cc
 
-  same_turner : {k v w : ℕ} → R.request k ≡ request.Turn v → R.request k ≡ request.Turn w → v ≡ w
+  pub same_turner : {k v w : ℕ} → R.request k ≡ request.Turn v → R.request k ≡ request.Turn w → v ≡ w
   same_turner {k} {v} {w} e f = let x : request.Turn v ≡ request.Turn w = sym e ∙ f in cc
 
   -- an open call was begun by its worker

@@ -9,6 +9,7 @@ ghost use Rattle.runs.specs.Sights.{RunsSeen};
 ghost use Rattle.runs.specs.Runs.{HistoriesAreRuns};
 ghost use Rattle.runs.specs.Steps.{RunsStep};
 ghost use Rattle.runs.specs.Times.{RunsLast};
+ghost use Rattle.runs.specs.VertexFinds.{RunsFindVertices};
 
 use laws::{runs_keep_laws, runs_sound, runs_stamp};
 use order::pasts_tell_what_was_seen;
@@ -92,4 +93,17 @@ pub fn runs_seen()
     runs_stamp();
     runs_know();
     pasts_tell_what_was_seen();
+}
+
+// What a call finds of the vertex of a key, where it stands at one of its turns or right after the end of a row.
+pub fn runs_find_vertices()
+    ensures { RunsFindVertices }
+{
+    runs_sound();
+    runs_keep_laws();
+    runs_stamp();
+    runs_step();
+    runs_last();
+    runs_know();
+    runs_events();
 }
