@@ -25,3 +25,4 @@ mod Carries
 mod Once
 mod Sights
 mod VertexFinds
+mod EdgeFinds

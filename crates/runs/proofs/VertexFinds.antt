@@ -52,11 +52,11 @@ module _ (sound : RunsSound) (keep : RunsKeepLaws) (stamps : RunsStamp) (step : 
   end_is : (r : ℕ) (h : Ended r) → m.vertex_del r ≡ record { stamp = h.stamp; time = h.time }
   end_is r h = tell.ended Vertex r h.time h.stamp h.linked h.ending h.is
 
-  abbrev now_mark : ℕ → Mark
+  abbrev pub now_mark : ℕ → Mark
   now_mark t = record { stamp = clock_at R t; time = t }
 
   -- a change and a turn of a call that made none are at different times
-  other_time : (b t : ℕ) → MadeNone R N b → TurnOf R t b → t < N → (f : Field) (p a : ℕ) (d : Change) (r : ℕ) → ChangeEvent R f p a d r → ¬ (p ≡ t)
+  pub other_time : (b t : ℕ) → MadeNone R N b → TurnOf R t b → t < N → (f : Field) (p a : ℕ) (d : Change) (r : ℕ) → ChangeEvent R f p a d r → ¬ (p ≡ t)
   other_time b t none u l f p a d r ev e =
       let fv : ChangeEvent R f t a d r = subst (λ j. ChangeEvent R f j a d r) e ev in
       let x = by_turn sound keep stamps step last know R f t a d r fv in

@@ -1,6 +1,7 @@
 // Runs as functions of time, and what holds of them over time.
 #![tactic(auto)]
 
+ghost use Rattle.runs.specs.EdgeFinds.{RunsFindEdges};
 ghost use Rattle.runs.specs.Events.{RunsEvents};
 ghost use Rattle.runs.specs.Marking.{RunsMarked};
 ghost use Rattle.runs.specs.Once.{RunsChangeOnce};
@@ -98,6 +99,19 @@ pub fn runs_seen()
 // What a call finds of the vertex of a key, where it stands at one of its turns or right after the end of a row.
 pub fn runs_find_vertices()
     ensures { RunsFindVertices }
+{
+    runs_sound();
+    runs_keep_laws();
+    runs_stamp();
+    runs_step();
+    runs_last();
+    runs_know();
+    runs_events();
+}
+
+// What a call finds of an edge that it saw, where it then saw both vertices alive.
+pub fn runs_find_edges()
+    ensures { RunsFindEdges }
 {
     runs_sound();
     runs_keep_laws();
