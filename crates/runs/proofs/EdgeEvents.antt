@@ -60,7 +60,7 @@ module _ (sound : RunsSound) (keep : RunsKeepLaws) (stamp : RunsStamp) (step : R
   binds_of {p} {b} {e} {d} ev = binds_why p b d ev.why
 
   -- a head of a pair that is a row is a linked row
-  head_is_linked : (t : ℕ) (h : Head) → Named R.sizes (cell.Head h) → 0 < head_at R t h → LinkedAt R t (head_kind h) (head_at R t h)
+  pub head_is_linked : (t : ℕ) (h : Head) → Named R.sizes (cell.Head h) → 0 < head_at R t h → LinkedAt R t (head_kind h) (head_at R t h)
   head_is_linked t h n l =
       let p = (last R).head t h n l in
       subst (λ (g : Head). LinkedAt R t (head_kind g) (head_at R t h)) p.held.head (linked_later sound keep stamp step last know R (suc p.time) t (change_kind p.held.change) (head_at R t h) p.before p.held.step.linked)

@@ -33,7 +33,7 @@ module _ (sound : RunsSound) (keep : RunsKeepLaws) (stamps : RunsStamp) (step : 
   abbrev at : ℕ → Mark
   at t = now_mark sound keep stamps step last know events R N m tell ok t
 
-  row_in : (c : Kind) (t r : ℕ) → LinkedAt R t c r → r < suc (rows_all R.sizes c)
+  pub row_in : (c : Kind) (t r : ℕ) → LinkedAt R t c r → r < suc (rows_all R.sizes c)
   row_in c t r l = let e : rows_all (R.state t).sizes c ≡ rows_all R.sizes c = ap (λ (z : Sizes). rows_all z c) (sizes_at sound keep stamps R t) in omega (arith, (linked_is_row (R.state t) c r l).1)
 
   -- a vertex row that is seen alive at a later time u ends after t

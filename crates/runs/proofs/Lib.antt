@@ -26,3 +26,4 @@ mod Once
 mod Sights
 mod VertexFinds
 mod EdgeFinds
+mod EdgeMisses

@@ -2,6 +2,7 @@
 #![tactic(auto)]
 
 ghost use Rattle.runs.specs.EdgeFinds.{RunsFindEdges};
+ghost use Rattle.runs.specs.EdgeMisses.{RunsMissEdges};
 ghost use Rattle.runs.specs.Events.{RunsEvents};
 ghost use Rattle.runs.specs.Marking.{RunsMarked};
 ghost use Rattle.runs.specs.Once.{RunsChangeOnce};
@@ -112,6 +113,19 @@ pub fn runs_find_vertices()
 // What a call finds of an edge that it saw, where it then saw both vertices alive.
 pub fn runs_find_edges()
     ensures { RunsFindEdges }
+{
+    runs_sound();
+    runs_keep_laws();
+    runs_stamp();
+    runs_step();
+    runs_last();
+    runs_know();
+    runs_events();
+}
+
+// What a call finds of an edge, where it read a head that is not the edge and then saw both vertices alive.
+pub fn runs_miss_edges()
+    ensures { RunsMissEdges }
 {
     runs_sound();
     runs_keep_laws();
