@@ -26,7 +26,8 @@ use Rattle.stepper.specs.Workers.{at, finishes, finished, with_book, arrived, ou
 use Rattle.runs.specs.Runs.{Run}
 use Rattle.runs.specs.Purposes.{InCall, Made}
 use Rattle.runs.specs.Known.{Known}
-use Rattle.runs.specs.Reasons.{Right, Good}
+use Rattle.runs.specs.Reasons.{Right}
+use Rattle.runs.proofs.Goods.{Good}
 
 -- a walk leads to a walk of the same snapshot or reach, or to an answer
 abbrev WalksOn : Survey → Out → Type 0

@@ -84,6 +84,14 @@ module _ (sound : RunsSound) (keep : RunsKeepLaws) (stamps : RunsStamp) (step : 
   end_mark_is : (e : ℕ) (x : End sound keep stamps step last know events R N Edge e) → m.edge_del e ≡ record { stamp = x.stamp; time = x.time }
   end_mark_is e x = tell.ended Edge e x.time x.stamp x.linked x.ending x.is
 
+  same_ends : (e : ℕ) (x y : End sound keep stamps step last know events R N Edge e) → (x.stamp ≡ y.stamp) × (x.time ≡ y.time)
+  same_ends e x y =
+      let s : ◌≡◌ {A = Mark} (record { stamp = x.stamp; time = x.time }) (record { stamp = y.stamp; time = y.time }) = sym (end_mark_is e x) ∙ end_mark_is e y in
+      (ap (λ (r : Mark). r.stamp) s, ap (λ (r : Mark). r.time) s)
+
+  ends_read : (e : ℕ) (x : End sound keep stamps step last know events R N Edge e) → x.stamp ≤ clock_at R read → x.time < read → Earlier (m.edge_del e) (at read)
+  ends_read e x a t = subst (λ g. Earlier g (at read)) (sym (end_mark_is e x)) (earlier x.stamp x.time (clock_at R read) read a t)
+
   -- what stands at a key c from the read on and before the first check
   module _ (c : Key) (later : (clock_at R read < c.stamp) ⊎ ((clock_at R read ≡ c.stamp) × (read ≤ c.time))) (soon : c.stamp ≤ clock_at R first) (before : c.time < first)
       (mine : (e : ℕ) → e ≡ h → 0 < e → m.source e ≡ d.source → m.target e ≡ d.target → Before (time_bound N) c (m.edge_del e))
@@ -135,7 +143,7 @@ module _ (sound : RunsSound) (keep : RunsKeepLaws) (stamps : RunsStamp) (step : 
     older e x p q y ev s t l (ends z) =
         let w : LinkedAt R read Edge e = linked_later sound keep stamps step last know R (suc x.time) read Edge e l ev.step.linked in
         let u = ended_by sound keep stamps step last know events R N Edge e read (omega (arith, read_first, first_second, second_now)) w z in
-        inr (inl (weaken _ (subst (λ g. Earlier g (at read)) (sym (end_mark_is e u.0)) (earlier u.0.stamp u.0.time (clock_at R read) read u.2 u.1))))
+        inr (inl (weaken (m.edge_del e) (ends_read e u.0 u.2 u.1)))
     older e x p q y ev s t l (lone (inl z)) = absurd (dead_not sound keep stamps step last know R first d.source (dead_kept sound keep stamps step last know R read first d.source (omega (arith, read_first)) (subst (Dead R read) s z)) source_seen.alive)
     older e x p q y ev s t l (lone (inr z)) = absurd (dead_not sound keep stamps step last know R second d.target (dead_kept sound keep stamps step last know R read second d.target (omega (arith, read_first, first_second)) (subst (Dead R read) t z)) target_seen.alive)
 
@@ -186,9 +194,9 @@ module _ (sound : RunsSound) (keep : RunsKeepLaws) (stamps : RunsStamp) (step : 
         let st = (events R).edge_order x.time x.linking.began h g.time g.linking.began e u.0 v.0 u.1 v.1 (u.2.0 ∙ sym v.2.0) (u.2.1 ∙ sym v.2.1) before in
         let w : LinkedAt R g.time Edge h = linked_later sound keep stamps step last know R (suc x.time) g.time Edge h before u.1.step.linked in
         let z = ended_by sound keep stamps step last know events R N Edge h g.time (omega (arith, g.before)) w st in
-        let same = sym (end_mark_is h y) ∙ end_mark_is h z.0 in
-        let same_stamp : y.stamp ≡ z.0.stamp = ap (λ (r : Mark). r.stamp) same in
-        let same_time : y.time ≡ z.0.time = ap (λ (r : Mark). r.time) same in
+        let same = same_ends h y z.0 in
+        let same_stamp : y.stamp ≡ z.0.stamp = same.0 in
+        let same_time : y.time ≡ z.0.time = same.1 in
         let c = birth_now sound keep stamps step last know events R N Edge e g in
         subst (Earlier (record { stamp = y.stamp; time = y.time })) (sym (tell.born Edge e g.time g.stamp g.linked g.linking g.is)) (earlier y.stamp y.time g.stamp g.time (omega (arith, z.2, c.0)) (omega (arith, z.1)))
 

@@ -7,6 +7,7 @@ mod Steps
 mod Times
 mod Kept
 mod Heads
+mod Goods
 mod Looks
 mod Settled
 mod Swaps

@@ -27,7 +27,8 @@ use Rattle.runs.specs.Steps.{RunsStep}
 use Rattle.runs.specs.Times.{Past, TimeLaws, RunsLast}
 use Rattle.runs.specs.Purposes.{look_call}
 use Rattle.runs.specs.Known.{TurnOf, Stamped, Dead, Living, HeadWas, Saw, BoundTo, Over, HitAt, KnownFound, Firm}
-use Rattle.runs.specs.Reasons.{Why.vertex_here, Why.vertex_gone, Why.edge_here, Why.edge_missed, Good, WorkerKnows}
+use Rattle.runs.specs.Reasons.{Why.vertex_here, Why.vertex_gone, Why.edge_here, Why.edge_missed, WorkerKnows}
+use Rattle.runs.proofs.Goods.{Good}
 use Rattle.runs.proofs.Times.{past_later}
 use Rattle.runs.proofs.Kept.{stamped_later, over_later}
 use Rattle.runs.proofs.Heads.{row_pos, still_head}

@@ -47,7 +47,8 @@ use Rattle.runs.specs.Steps.{LinkStep, RunsStep}
 use Rattle.runs.specs.Times.{Past, TimeLaws, RunsLast}
 use Rattle.runs.specs.Purposes.{purpose_kind, purpose_field, purpose_row, purpose_call, purpose_made, change_call, look_call, InCall, place_made}
 use Rattle.runs.specs.Known.{TurnOf, Stamped, KnownStage, Have, KnownPurpose, KnownLink, KnownEnd, LinkEvent, EndEvent, Known}
-use Rattle.runs.specs.Reasons.{Why.rows_spent, Good, WorkerKnows}
+use Rattle.runs.specs.Reasons.{Why.rows_spent, WorkerKnows}
+use Rattle.runs.proofs.Goods.{Good}
 use Rattle.runs.proofs.Links.{linked_is_row}
 use Rattle.runs.proofs.Turns.{next_from, next_is, LinkTurn, LinkTurn.spent, LinkTurn.lost, LinkTurn.won, link_turn}
 use Rattle.runs.proofs.TurnSteps.{mark_stamp}

@@ -31,7 +31,8 @@ use Rattle.runs.specs.Steps.{RunsStep}
 use Rattle.runs.specs.Times.{TimeLaws, RunsLast}
 use Rattle.runs.specs.Purposes.{change_op, change_call, Made}
 use Rattle.runs.specs.Known.{TurnOf, Stamped, Living, Has, KnownFound, KnownEnd, OwnChange, NotBelow, StampedChange}
-use Rattle.runs.specs.Reasons.{Needs, vertex_changed, IsEnd, Why.vertex_made, Why.vertex_ended, Why.ended_below, Good, WorkerKnows}
+use Rattle.runs.specs.Reasons.{Needs, vertex_changed, IsEnd, Why.vertex_made, Why.vertex_ended, Why.ended_below, WorkerKnows}
+use Rattle.runs.proofs.Goods.{Good}
 use Rattle.runs.proofs.Times.{past_later}
 use Rattle.runs.proofs.Kept.{change_later, below_later}
 use Rattle.runs.proofs.Heads.{still_living}

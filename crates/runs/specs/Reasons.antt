@@ -1,6 +1,5 @@
 -- Why an answer is right, in what the run did before it; and that every worker knows what its place says.
 use Rattle.std.specs.Prelude.{◌≡◌, ℕ, suc, ◌<◌, ◌⊎◌, Some, None, Ok, Err, Option}
-use Rattle.std.specs.declared.ops.ControlFlow.TheVariants.{Continue, Break}
 use Rattle.codes.specs.declared.answer.Answer.{Answer}
 use Rattle.codes.specs.declared.answer.Answer.TheVariants.{VertexAdded, VertexAlready, VertexRemoved, VertexAbsent, VertexPresent, EdgeAlready, EdgeAbsent, EdgePresent, RowsSpent}
 use Rattle.layout.specs.declared.names.Kind.TheVariants.{Vertex}
@@ -17,7 +16,6 @@ use Rattle.places.specs.declared.place.Change.TheVariants as change
 use Rattle.places.specs.declared.place.Call.{Call}
 use Rattle.places.specs.declared.place.Call.TheVariants as call
 use Rattle.places.specs.declared.place.Place.TheVariants as place
-use Rattle.places.specs.Outs.{Out}
 use Rattle.places.specs.Rules.{edge_changed}
 use Rattle.stepper.specs.declared.request.Request.TheVariants as request
 use Rattle.stepper.specs.declared.request.Reply.TheVariants.{Answered}
@@ -72,11 +70,6 @@ module _ (R : Run) where
   abbrev pub Right : ℕ → ℕ → Call → Option Made → Answer → Type 0
   Right k b (call.Survey v) m a = Unit {0}
   Right k b c m a = Why k b c m a
-
-  -- where a call goes on to what is known there, or why its answer is right
-  abbrev pub Good : ℕ → ℕ → Call → Option Made → Out → Type 0
-  Good k b c m (Continue p) = Known R k b p × InCall p c
-  Good k b c m (Break a) = Right k b c m a
 
   -- worker w began call c at time b
   pub record BegunBy (k w b : ℕ) (c : Call) : Type 0 where
