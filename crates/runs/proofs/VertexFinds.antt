@@ -125,6 +125,23 @@ module _ (sound : RunsSound) (keep : RunsKeepLaws) (stamps : RunsStamp) (step : 
           let j : x.0 ≡ i = sym (tell.key h.time h.linking.began x.0 s x.1 h.before) ∙ q in
           ⊎_elim (λ (z : h.time < t). older s h.time h.linking.began (subst (λ y. LinkEvent R h.time h.linking.began (change.Vertex y) s) j x.1) z) (λ (z : t ≤ h.time). newer s h z) (cases_lt h.time t)
 
+  -- right after the birth of a row of the key
+  found_born : (b i r a q n : ℕ) → LinkEvent R q a (change.Vertex i) r → q < N → mark_at R N Vertex Ins r ≡ Stamp n → VertexFound (time_bound N) m (after_key R N n q b) i true
+  found_born b i r a q n ev l e =
+      let on : LinkedAt R N Vertex r = linked_later sound keep stamps step last know R (suc q) N Vertex r l ev.step.linked in
+      let y : Linking R Vertex r q = record { began = a; change = change.Vertex i; kind = refl; event = ev } in
+      let is : m.vertex_ins r ≡ record { stamp = n; time = q } = tell.born Vertex r q n on y e in
+      let small : rows_all (R.state N).sizes Vertex ≡ rows_all R.sizes Vertex = ap (λ (z : Sizes). rows_all z Vertex) (sizes_at sound keep stamps R N) in
+      let low : (m.vertex_ins r).stamp ≤ clock_at R N = subst (λ (w : Mark). w.stamp ≤ clock_at R N) (sym is) ((events R).link_stamp Vertex r q N n y l e).1 in (
+        r,
+        record {
+          row = omega (arith, tell.vertices, (linked_is_row (R.state N) Vertex r on).1);
+          born = inr (ap (λ (z : Mark). z.stamp) is, ap (λ (z : Mark). z.time) is, omega arith);
+          ends = subst (λ (w : Mark). Earlier w (m.vertex_del r)) is (ok.vertex_order r low);
+        },
+        tell.key q a i r ev l,
+      )
+
   -- right after the end of a row of the key
   found_ended : (b i r a q p n : ℕ) → LinkEvent R q a (change.Vertex i) r → Ending R Vertex r p → p < N → mark_at R N Vertex Del r ≡ Stamp n → VertexFound (time_bound N) m (after_key R N n p b) i false
   found_ended b i r a q p n ev x l e = λ s k. go s k (cases_eq s r)
@@ -159,7 +176,7 @@ module _ (sound : RunsSound) (keep : RunsKeepLaws) (stamps : RunsStamp) (step : 
           (ok.vertex_apart r s same_key (λ z. y (sym z)))
 
   pub vertex_finds : VertexFinds R N m
-  vertex_finds = record { here = found_here; absent = found_absent; ended = found_ended }
+  vertex_finds = record { here = found_here; absent = found_absent; born = found_born; ended = found_ended }
 
 pub runs_find_vertices : RunsSound → RunsKeepLaws → RunsStamp → RunsStep → RunsLast → RunsKnow → RunsEvents → RunsFindVertices
 runs_find_vertices sound keep stamps step last know events R N m tell ok = vertex_finds sound keep stamps step last know events R N m tell ok

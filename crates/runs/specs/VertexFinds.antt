@@ -2,7 +2,7 @@
 use Rattle.std.specs.Prelude.{◌≡◌, ℕ, suc, ◌+◌, ◌<◌, ◌⊎◌, true, false}
 use Rattle.layout.specs.declared.names.Kind.TheVariants.{Vertex}
 use Rattle.layout.specs.declared.names.Field.{Field}
-use Rattle.layout.specs.declared.names.Field.TheVariants.{Del}
+use Rattle.layout.specs.declared.names.Field.TheVariants.{Ins, Del}
 use Rattle.layout.specs.declared.names.Head.TheVariants as head
 use Rattle.places.specs.declared.mark.Mark.TheVariants.{Stamp}
 use Rattle.places.specs.declared.place.Change.{Change}
@@ -33,6 +33,8 @@ module _ (R : Run) (now : ℕ) where
     pub here : (b t i r : ℕ) → MadeNone b → TurnOf R t b → t < now → i < R.sizes.keys → Living R t i r → VertexFound (time_bound now) m (turn_key t) i true
     -- no row of the key is there at the turn that reads no row as its head, or one that has ended before
     pub absent : (b t i r : ℕ) → MadeNone b → TurnOf R t b → t < now → i < R.sizes.keys → head_at R t (head.Vertex i) ≡ r → (r ≡ 0) ⊎ Earlier (m.vertex_del r) (record { stamp = clock_at R t; time = t }) → VertexFound (time_bound now) m (turn_key t) i false
+    -- a row of the key is there right after its birth
+    pub born : (b i r a q n : ℕ) → LinkEvent R q a (change.Vertex i) r → q < now → mark_at R now Vertex Ins r ≡ Stamp n → VertexFound (time_bound now) m (after_key n q b) i true
     -- none is there right after the end of one of them
     pub ended : (b i r a q p n : ℕ) → LinkEvent R q a (change.Vertex i) r → Ending R Vertex r p → p < now → mark_at R now Vertex Del r ≡ Stamp n → VertexFound (time_bound now) m (after_key n p b) i false
 
