@@ -1,0 +1,244 @@
+-- What a call finds of an edge that it did not see.
+use Rattle.std.proofs.Common.{◌≡◌, ℕ, suc, ◌<◌, ◌≤◌, false, ◌⊎◌, Err, sym, refl, ap, ap₂, ◌∙◌, subst, inl, inr, ⊎_elim, arith}
+use Rattle.std.proofs.lemmas.Bool.{cases_lt, cases_eq}
+use Rattle.layout.specs.declared.names.Kind.TheVariants.{Vertex, Edge}
+use Rattle.layout.specs.declared.names.Field.TheVariants.{Ins, Del}
+use Rattle.layout.specs.declared.names.Head.TheVariants as head
+use Rattle.places.specs.declared.mark.Mark.TheVariants.{NotEnded}
+use Rattle.places.specs.declared.place.Op.{Op}
+use Rattle.places.specs.declared.place.Bound.{Bound}
+use Rattle.places.specs.declared.place.Change.TheVariants as change
+use Rattle.laws.specs.Sound.{RunsSound, RunsKeepLaws}
+use Rattle.laws.specs.Stamps.{RunsStamp}
+use Rattle.order.specs.Keys.{Key}
+use Rattle.order.specs.Marks.{Mark, Earlier, Marks, Sound}
+use Rattle.order.specs.Finds.{mark_of, Before, After, VertexThere, PairThere, EdgeFound}
+use Rattle.runs.specs.Runs.{Run}
+use Rattle.runs.specs.Views.{clock_at, head_at, mark_at, LinkedAt}
+use Rattle.runs.specs.Steps.{RunsStep}
+use Rattle.runs.specs.Times.{RunsLast}
+use Rattle.runs.specs.Known.{TurnOf, Stamped, Dead, Living, Has, Shut, Over, BoundTo, Firm, LinkEvent}
+use Rattle.runs.specs.Reasons.{RunsKnow}
+use Rattle.runs.specs.Events.{RunsEvents}
+use Rattle.runs.specs.Marking.{time_bound, MarksTell}
+use Rattle.runs.specs.VertexFinds.{turn_key, after_key, MadeNone}
+use Rattle.runs.specs.EdgeMisses.{KeyBefore, KeyBefore.at_turn, KeyBefore.after_end, EdgeMissed, RunsMissEdges}
+use Rattle.runs.proofs.Links.{linked_is_row}
+use Rattle.runs.proofs.Events.{stamp_kept, clock_later, linked_later, linked_from, dead_kept, dead_not, living_link, living_key, edge_keys}
+use Rattle.runs.proofs.EdgeEvents.{head_is_linked, binds_of, Still, Still.heads, Still.ends, Still.lone, still, edge_bound}
+use Rattle.runs.proofs.Births.{Birth, End, birth, born_or, ended_or, birth_now, end_now, ended_by, ends_after, living_birth, edge_change_of}
+use Rattle.runs.proofs.MarkLaws.{earlier}
+use Rattle.runs.proofs.VertexFinds.{now_mark, other_time}
+use Rattle.runs.proofs.EdgeFinds.{row_in}
+
+module _ (sound : RunsSound) (keep : RunsKeepLaws) (stamps : RunsStamp) (step : RunsStep) (last : RunsLast) (know : RunsKnow) (events : RunsEvents) (R : Run) (N : ℕ) (m : Marks) (tell : MarksTell R N m) (ok : Sound (time_bound N) (clock_at R N) m)
+    (b k : ℕ) (o : Op) (d : Bound) (h : ℕ) (none : MadeNone R N b) (kN : k ≤ N) (i : d.pair.from < R.sizes.keys) (j : d.pair.to < R.sizes.keys) (f : Firm R k b o d (Err h)) where
+  abbrev Born : ℕ → Type 0
+  Born e = Birth sound keep stamps step last know events R N Edge e
+
+  abbrev at : ℕ → Mark
+  at t = now_mark sound keep stamps step last know events R N m tell ok t
+
+  -- the times of the read, of the look's end and first check, and of the second check
+  abbrev read : ℕ
+  read = f.held.2.held.2.0.time
+
+  abbrev first : ℕ
+  first = f.held.2.time
+
+  abbrev second : ℕ
+  second = f.time
+
+  read_first : read < first
+  read_first = f.held.2.held.2.0.before
+
+  first_second : first < second
+  first_second = f.held.2.before
+
+  second_now : second < N
+  second_now = omega (arith, f.before)
+
+  source_seen : Living R first d.pair.from d.source
+  source_seen = f.held.2.held.1
+
+  target_seen : Living R second d.pair.to d.target
+  target_seen = f.held.1
+
+  read_is : head_at R read (head.Edge d.pair.from d.pair.to) ≡ h
+  read_is = f.held.2.held.2.0.held.1
+
+  read_turn : TurnOf R read b
+  read_turn = f.held.2.held.2.0.held.0
+
+  clocks : (t u : ℕ) → t ≤ u → clock_at R t ≤ clock_at R u
+  clocks t u l = clock_later sound keep stamps step last know R t u l
+
+  -- an edge row that is born, with its link
+  edge_link : (e : ℕ) (x : Born e) → m.source e ≡ d.source → m.target e ≡ d.target → (c : Bound) × LinkEvent R x.time x.linking.began (change.Edge c) e × ((c.source ≡ d.source) × (c.target ≡ d.target))
+  edge_link e x p q =
+      let y = edge_change_of x.linking.change x.linking.kind in
+      let ev : LinkEvent R x.time x.linking.began (change.Edge y.0) e = subst (λ c. LinkEvent R x.time x.linking.began c e) y.1 x.linking.event in
+      let s = edge_bound sound keep stamps step last know R ev N x.before in
+      (y.0, ev, (sym s.0 ∙ sym (tell.source e) ∙ p, sym s.1 ∙ sym (tell.target e) ∙ q))
+
+  end_mark_is : (e : ℕ) (x : End sound keep stamps step last know events R N Edge e) → m.edge_del e ≡ record { stamp = x.stamp; time = x.time }
+  end_mark_is e x = tell.ended Edge e x.time x.stamp x.linked x.ending x.is
+
+  same_ends : (e : ℕ) (x y : End sound keep stamps step last know events R N Edge e) → (x.stamp ≡ y.stamp) × (x.time ≡ y.time)
+  same_ends e x y =
+      let s : ◌≡◌ {A = Mark} (record { stamp = x.stamp; time = x.time }) (record { stamp = y.stamp; time = y.time }) = sym (end_mark_is e x) ∙ end_mark_is e y in
+      (ap (λ (r : Mark). r.stamp) s, ap (λ (r : Mark). r.time) s)
+
+  ends_read : (e : ℕ) (x : End sound keep stamps step last know events R N Edge e) → x.stamp ≤ clock_at R read → x.time < read → Earlier (m.edge_del e) (at read)
+  ends_read e x a t = subst (λ g. Earlier g (at read)) (sym (end_mark_is e x)) (earlier x.stamp x.time (clock_at R read) read a t)
+
+  -- what stands at a key c from the read on and before the first check
+  module _ (c : Key) (later : (clock_at R read < c.stamp) ⊎ ((clock_at R read ≡ c.stamp) × (read ≤ c.time))) (soon : c.stamp ≤ clock_at R first) (before : c.time < first)
+      (mine : (e : ℕ) → e ≡ h → 0 < e → m.source e ≡ d.source → m.target e ≡ d.target → Before (time_bound N) c (m.edge_del e))
+      (newer : (e : ℕ) (x : Born e) → m.source e ≡ d.source → m.target e ≡ d.target → read < x.time → After c (m.edge_ins e)) where
+    weaken : (x : Mark) → Earlier x (at read) → Earlier x (mark_of c)
+    weaken x (inl y) = ⊎_elim (λ (z : clock_at R read < c.stamp). inl (omega arith)) (λ (z : (clock_at R read ≡ c.stamp) × (read ≤ c.time)). inl (omega (arith, z.0))) later
+    weaken x (inr y) = ⊎_elim (λ (z : clock_at R read < c.stamp). inl (omega (arith, y.0))) (λ (z : (clock_at R read ≡ c.stamp) × (read ≤ c.time)). inr (y.0 ∙ z.0, omega (arith, y.1, z.1))) later
+
+    lives_on : (u s : ℕ) → first ≤ u → u ≤ N → mark_at R u Vertex Del s ≡ NotEnded → Earlier (mark_of c) (m.vertex_del s)
+    lives_on u s l n e =
+        let rises = clocks first u l in
+        ⊎_elim
+        (λ (x : End sound keep stamps step last know events R N Vertex s).
+        let y = ends_after sound keep stamps step last know events R N Vertex s x u e in
+        subst (Earlier (mark_of c)) (sym (tell.ended Vertex s x.time x.stamp x.linked x.ending x.is)) (earlier c.stamp c.time x.stamp x.time (omega (arith, y.1)) (omega (arith, y.0))))
+        (λ (x : ¬ (LinkedAt R N Vertex s × Stamped R N Vertex Del s)). subst (Earlier (mark_of c)) (sym (tell.unended Vertex s x)) (inl (omega (arith, clocks first N (omega (arith, first_second, second_now))))))
+        (ended_or sound keep stamps step last know events R N Vertex s)
+
+    vertex_there : (n s u : ℕ) → n < R.sizes.keys → Has R read b n s → first ≤ u → u ≤ N → mark_at R u Vertex Del s ≡ NotEnded → VertexThere (time_bound N) m c s × (m.key_of s ≡ n)
+    vertex_there n s u l x a g e =
+        let t = x.time in
+        let y = living_birth sound keep stamps step last know events R N x.time n s l (omega (arith, x.before, read_first, first_second, second_now)) x.held.1 in
+        let p = living_link sound keep stamps step last know R l x.held.1 in
+        let rises = clocks x.time read (omega (arith, x.before)) in (
+          record {
+            row = omega (arith, tell.vertices, row_in sound keep stamps step last know events R N m tell ok Vertex x.time s x.held.1.linked);
+            born = inl (weaken _ (subst (λ z. Earlier z (at read)) (sym (tell.born Vertex s y.0.time y.0.stamp y.0.linked y.0.linking y.0.is)) (earlier y.0.stamp y.0.time (clock_at R read) read (omega (arith, y.2)) (omega (arith, y.1, x.before)))));
+            ends = lives_on u s a g e;
+          },
+          tell.key p.time p.held.0 n s p.held.1 (omega (arith, p.before, x.before, read_first, first_second, second_now)),
+        )
+
+    pair_there : PairThere (time_bound N) m c d.pair d.source d.target
+    pair_there =
+        let have = f.held.2.held.2.0.held.2 in
+        let x = vertex_there d.pair.from d.source first i have.0 (omega arith) (omega (arith, first_second, second_now)) source_seen.alive in
+        let y = vertex_there d.pair.to d.target second j have.1 (omega (arith, first_second)) (omega (arith, second_now)) target_seen.alive in
+        record { source = x.0; from = x.1; target = y.0; to = y.1 }
+
+    older : (e : ℕ) (x : Born e) → m.source e ≡ d.source → m.target e ≡ d.target → (y : Bound) (ev : LinkEvent R x.time x.linking.began (change.Edge y) e) → y.source ≡ d.source → y.target ≡ d.target → x.time < read
+        → Still sound keep stamps step last know R read (head.Edge y.pair.from y.pair.to) e y → After c (m.edge_ins e) ⊎ Before (time_bound N) c (m.edge_del e)
+    older e x p q y ev s t l (heads z) =
+        let v = binds_of sound keep stamps step last know R ev in
+        let k = edge_keys sound keep stamps step last know R ev in
+        let from : y.pair.from ≡ d.pair.from = living_key sound keep stamps step last know R k.0 i v.source (subst (Living R first d.pair.from) (sym s) source_seen) in
+        let to : y.pair.to ≡ d.pair.to = living_key sound keep stamps step last know R k.1 j v.target (subst (Living R second d.pair.to) (sym t) target_seen) in
+        let same : e ≡ h = sym z ∙ ap₂ (λ a g. head_at R read (head.Edge a g)) from to ∙ read_is in
+        inr (mine e same (linked_is_row (R.state N) Edge e x.linked).0 p q)
+    older e x p q y ev s t l (ends z) =
+        let w : LinkedAt R read Edge e = linked_later sound keep stamps step last know R (suc x.time) read Edge e l ev.step.linked in
+        let u = ended_by sound keep stamps step last know events R N Edge e read (omega (arith, read_first, first_second, second_now)) w z in
+        inr (inl (weaken (m.edge_del e) (ends_read e u.0 u.2 u.1)))
+    older e x p q y ev s t l (lone (inl z)) = absurd (dead_not sound keep stamps step last know R first d.source (dead_kept sound keep stamps step last know R read first d.source (omega (arith, read_first)) (subst (Dead R read) s z)) source_seen.alive)
+    older e x p q y ev s t l (lone (inr z)) = absurd (dead_not sound keep stamps step last know R second d.target (dead_kept sound keep stamps step last know R read second d.target (omega (arith, read_first, first_second)) (subst (Dead R read) t z)) target_seen.alive)
+
+    edge_gone : EdgeFound (time_bound N) m c d.source d.target false
+    edge_gone e p q = go (born_or sound keep stamps step last know events R N Edge e)
+      where
+        go : Born e ⊎ ¬ (LinkedAt R N Edge e × Stamped R N Edge Ins e) → After c (m.edge_ins e) ⊎ Before (time_bound N) c (m.edge_del e)
+        go (inr n) = inl (subst (Earlier (mark_of c)) (sym (tell.unborn Edge e n)) (inl (omega (arith, soon, clocks first N (omega (arith, first_second, second_now))))))
+        go (inl x) =
+            let y = edge_link e x p q in
+            ⊎_elim (λ (l : x.time < read). older e x p q y.0 y.1 y.2.0 y.2.1 l (still sound keep stamps step last know R y.1 read l))
+            (λ (l : read ≤ x.time).
+            let n = other_time sound keep stamps step last know events R N m tell ok b read none read_turn (omega (arith, read_first, first_second, second_now)) Ins x.time x.linking.began x.linking.change e x.linking.event in
+            inl (newer e x p q (omega (arith, n))))
+            (cases_lt x.time read)
+
+    missed_at : KeyBefore R N b k c → EdgeMissed R N b k m d
+    missed_at y = record { key = c; before = y; pair = pair_there; found = edge_gone }
+
+  -- at the turn that read the head of the pair
+  at_read : ((e : ℕ) → e ≡ h → 0 < e → m.source e ≡ d.source → m.target e ≡ d.target → Before (time_bound N) (turn_key R N read) (m.edge_del e)) → EdgeMissed R N b k m d
+  at_read mine =
+      missed_at (turn_key R N read) (inr (refl, omega arith)) (clocks read first (omega (arith, read_first))) read_first mine
+      (λ e x p q l.
+      let c = birth_now sound keep stamps step last know events R N Edge e x in
+      let g = clocks read x.time (omega arith) in
+      subst (Earlier (at read)) (sym (tell.born Edge e x.time x.stamp x.linked x.linking x.is)) (earlier (clock_at R read) read x.stamp x.time (omega (arith, c.0)) l))
+      (at_turn read read_turn (omega (arith, read_first, first_second, f.before)))
+
+  -- right after the end of the row that was read
+  module _ (x : Born h) (p : m.source h ≡ d.source) (q : m.target h ≡ d.target) (y : End sound keep stamps step last know events R N Edge h) (soon : y.time < first) (low : y.stamp ≤ clock_at R first)
+      (later : (clock_at R read < y.stamp) ⊎ ((clock_at R read ≡ y.stamp) × (read ≤ y.time))) where
+    linked_read : LinkedAt R read Edge h
+    linked_read = subst (LinkedAt R read Edge) read_is (head_is_linked sound keep stamps step last know R read (head.Edge d.pair.from d.pair.to) (i, j) (subst (λ z. 0 < z) (sym read_is) (linked_is_row (R.state N) Edge h x.linked).0))
+
+    since : (b ≤ y.time) ⊎ (clock_at R b < y.stamp)
+    since =
+        let a = read_turn.after in
+        let c = clocks b read (omega arith) in
+        ⊎_elim (λ (z : clock_at R read < y.stamp). inr (omega arith)) (λ (z : (clock_at R read ≡ y.stamp) × (read ≤ y.time)). inl (omega (arith, z.1))) later
+
+    newer_after : (e : ℕ) (g : Born e) → m.source e ≡ d.source → m.target e ≡ d.target → read < g.time → Earlier (record { stamp = y.stamp; time = y.time }) (m.edge_ins e)
+    newer_after e g s t l =
+        let u = edge_link h x p q in
+        let v = edge_link e g s t in
+        let early : x.time < read = linked_from sound keep stamps step last know R u.1 read linked_read in
+        let before : x.time < g.time = omega arith in
+        let st = (events R).edge_order x.time x.linking.began h g.time g.linking.began e u.0 v.0 u.1 v.1 (u.2.0 ∙ sym v.2.0) (u.2.1 ∙ sym v.2.1) before in
+        let w : LinkedAt R g.time Edge h = linked_later sound keep stamps step last know R (suc x.time) g.time Edge h before u.1.step.linked in
+        let z = ended_by sound keep stamps step last know events R N Edge h g.time (omega (arith, g.before)) w st in
+        let same = same_ends h y z.0 in
+        let same_stamp : y.stamp ≡ z.0.stamp = same.0 in
+        let same_time : y.time ≡ z.0.time = same.1 in
+        let c = birth_now sound keep stamps step last know events R N Edge e g in
+        subst (Earlier (record { stamp = y.stamp; time = y.time })) (sym (tell.born Edge e g.time g.stamp g.linked g.linking g.is)) (earlier y.stamp y.time g.stamp g.time (omega (arith, z.2, c.0)) (omega (arith, z.1)))
+
+    after_row : EdgeMissed R N b k m d
+    after_row =
+        let c = end_now sound keep stamps step last know events R N Edge h y in
+        missed_at (after_key R N y.stamp y.time b) later low soon
+        (λ e r z s t. let del : m.edge_del e ≡ record { stamp = y.stamp; time = y.time } = ap m.edge_del r ∙ end_mark_is h y in inr (ap (λ (r : Mark). r.stamp) del, ap (λ (r : Mark). r.time) del, omega arith))
+        newer_after
+        (after_end Edge h y.time y.stamp y.ending (omega (arith, first_second, f.before)) c.0 (omega (arith, low, clocks first k (omega (arith, first_second, f.before)))) since)
+
+  -- the row that was read has ended
+  read_ended : m.source h ≡ d.source → m.target h ≡ d.target → Shut R first h d → Stamped R first Edge Del h → EdgeMissed R N b k m d
+  read_ended p q z st =
+      let l : first ≤ N = omega (arith, first_second, second_now) in
+      let x = birth sound keep stamps step last know events R N Edge h z.born.number (linked_later sound keep stamps step last know R first N Edge h l z.linked) (stamp_kept sound keep stamps step last know R first N Edge Ins h z.born.number l z.linked z.born.is) in
+      let y = ended_by sound keep stamps step last know events R N Edge h first l z.linked st in
+      let before : Earlier (record { stamp = y.0.stamp; time = y.0.time }) (at read) → EdgeMissed R N b k m d =
+      λ a. at_read (λ e r u s t. inl (subst (λ g. Earlier g (at read)) (sym (ap m.edge_del r ∙ end_mark_is h y.0)) a)) in
+      ⊎_elim (λ (a : y.0.stamp < clock_at R read). before (inl a))
+      (λ (a : clock_at R read ≤ y.0.stamp).
+      ⊎_elim (λ (c : clock_at R read < y.0.stamp). after_row x p q y.0 y.1 y.2 (inl c))
+      (λ (c : y.0.stamp ≤ clock_at R read).
+      ⊎_elim (λ (g : y.0.time < read). before (inr (omega arith, g))) (λ (g : read ≤ y.0.time). after_row x p q y.0 y.1 y.2 (inr (omega arith, g))) (cases_lt y.0.time read))
+      (cases_lt (clock_at R read) y.0.stamp))
+      (cases_lt y.0.stamp (clock_at R read))
+
+  pub edge_missed : EdgeMissed R N b k m d
+  edge_missed = go f.held.2.held.2.1
+    where
+      bound : Shut R first h d → (m.source h ≡ d.source) ⊎ ¬ (m.source h ≡ d.source) → (m.target h ≡ d.target) ⊎ ¬ (m.target h ≡ d.target) → EdgeMissed R N b k m d
+      bound z (inr n) y = at_read (λ e r u s t. absurd (n (subst (λ w. m.source w ≡ d.source) r s)))
+      bound z (inl x) (inr n) = at_read (λ e r u s t. absurd (n (subst (λ w. m.target w ≡ d.target) r t)))
+      bound z (inl x) (inl y) =
+          let laws = (last R).times first N (omega (arith, first_second, second_now)) in
+          ⊎_elim (λ (st : Stamped R first Edge Del h). read_ended x y z st)
+          (λ (n : ¬ (BoundTo R first h d)). absurd (n (sym (laws.source h z.linked) ∙ sym (tell.source h) ∙ x, sym (laws.target h z.linked) ∙ sym (tell.target h) ∙ y)))
+          z.why
+
+      go : Over R first h d → EdgeMissed R N b k m d
+      go (inl z) = at_read (λ e r u s t. absurd (omega arith))
+      go (inr z) = bound z (cases_eq (m.source h) d.source) (cases_eq (m.target h) d.target)
+
+pub runs_miss_edges : RunsSound → RunsKeepLaws → RunsStamp → RunsStep → RunsLast → RunsKnow → RunsEvents → RunsMissEdges
+runs_miss_edges sound keep stamps step last know events R N m tell ok b k o d h none kN i j f = edge_missed sound keep stamps step last know events R N m tell ok b k o d h none kN i j f

@@ -1,0 +1,150 @@
+-- The marks of a run are sound.
+use Rattle.std.proofs.Common.{◌≡◌, ℕ, suc, ◌<◌, ◌≤◌, ◌≢◌, ◌⊎◌, sym, ap, ◌∙◌, subst, arith}
+use Rattle.layout.specs.declared.names.Kind.{Kind}
+use Rattle.layout.specs.declared.names.Kind.TheVariants.{Vertex, Edge}
+use Rattle.layout.specs.declared.names.Field.TheVariants.{Del}
+use Rattle.layout.specs.declared.names.Cell.TheVariants as cell
+use Rattle.layout.specs.declared.sizes.Sizes.{Sizes}
+use Rattle.layout.specs.Rows.{rows_all}
+use Rattle.places.specs.declared.mark.Mark.TheVariants.{NotEnded}
+use Rattle.places.specs.declared.place.Change.{Change}
+use Rattle.places.specs.declared.place.Place.TheVariants as place
+use Rattle.places.specs.Touches.{change_head, change_kind}
+use Rattle.laws.specs.Sound.{RunsSound, RunsKeepLaws}
+use Rattle.laws.specs.Stamps.{RunsStamp}
+use Rattle.order.specs.Marks.{Mark, Earlier, Marks, Sound}
+use Rattle.runs.specs.Runs.{Run}
+use Rattle.runs.specs.Views.{number_at, clock_at, head_at, mark_at, LinkedAt}
+use Rattle.runs.specs.Steps.{RunsStep}
+use Rattle.runs.specs.Times.{RunsLast}
+use Rattle.runs.specs.Known.{Living, LinkEvent, EndEvent}
+use Rattle.runs.specs.Reasons.{RunsKnow}
+use Rattle.runs.specs.Events.{RunsEvents}
+use Rattle.runs.specs.Marking.{time_bound, RunsMarked}
+use Rattle.runs.proofs.Links.{linked_is_row}
+use Rattle.runs.proofs.Steps.{sizes_at}
+use Rattle.runs.proofs.Events.{same_turn, clock_later, edge_keys}
+use Rattle.runs.proofs.EdgeEvents.{binds_of}
+use Rattle.runs.proofs.Births.{Birth, ins_is, key_of_row, marks, marks_tell, birth_now, living_birth}
+use Rattle.runs.proofs.Events.{end_change}
+use Rattle.runs.proofs.MarkLaws.{earlier, ins, del, Told, ins_small, del_small, born, over, before_end, mark_order, edge_link, apart_by, vertex_older, edge_older}
+
+module _ (sound : RunsSound) (keep : RunsKeepLaws) (stamps : RunsStamp) (step : RunsStep) (last : RunsLast) (know : RunsKnow) (events : RunsEvents) (R : Run) (N : ℕ) where
+  abbrev ins_at : Kind → ℕ → Mark
+  ins_at c r = ins sound keep stamps step last know events R N c r
+
+  abbrev del_at : Kind → ℕ → Mark
+  del_at c r = del sound keep stamps step last know events R N c r
+
+  abbrev source_at : ℕ → ℕ
+  source_at e = number_at R N (cell.Source e)
+
+  abbrev target_at : ℕ → ℕ
+  target_at e = number_at R N (cell.Target e)
+
+  row_in : (k s : ℕ) → LinkedAt R k Vertex s → s < suc (rows_all R.sizes Vertex)
+  row_in k s l = let e : rows_all (R.state k).sizes Vertex ≡ rows_all R.sizes Vertex = ap (λ (z : Sizes). rows_all z Vertex) (sizes_at sound keep stamps R k) in omega (arith, (linked_is_row (R.state k) Vertex s l).1)
+
+  -- what is known of the rows of an edge row that is born
+  record Ends (e : ℕ) : Type 0 where
+    pub source_row : source_at e < suc (rows_all R.sizes Vertex)
+    pub target_row : target_at e < suc (rows_all R.sizes Vertex)
+    pub source_first : Earlier (ins_at Vertex (source_at e)) (ins_at Edge e)
+    pub target_first : Earlier (ins_at Vertex (target_at e)) (ins_at Edge e)
+    pub source_meets : Earlier (ins_at Vertex (source_at e)) (del_at Vertex (target_at e))
+    pub target_meets : Earlier (ins_at Vertex (target_at e)) (del_at Vertex (source_at e))
+
+  birth_is : (r : ℕ) (h : Birth sound keep stamps step last know events R N Vertex r) → ins_at Vertex r ≡ record { stamp = h.stamp; time = h.time }
+  birth_is r h = ins_is sound keep stamps step last know events R N Vertex r h.time h.stamp h.linked h.linking h.is
+
+  -- a vertex row that was seen alive at t was born before any mark of a later time and stamp
+  living_first : (t i s n p : ℕ) → i < R.sizes.keys → t ≤ N → Living R t i s → clock_at R t ≤ n → t ≤ p → Earlier (ins_at Vertex s) (record { stamp = n; time = p })
+  living_first t i s n p k l v c a =
+      let h = living_birth sound keep stamps step last know events R N t i s k l v in
+      rw (birth_is s h.0) (earlier h.0.stamp h.0.time n p (omega (arith, h.2)) (omega (arith, h.1)))
+
+  -- and before the end of a row that had not ended at a later time
+  living_meets : (t i s r u : ℕ) → i < R.sizes.keys → t ≤ N → Living R t i s → t ≤ u → u ≤ N → mark_at R u Vertex Del r ≡ NotEnded → Earlier (ins_at Vertex s) (del_at Vertex r)
+  living_meets t i s r u k l v a b e =
+      let h = living_birth sound keep stamps step last know events R N t i s k l v in
+      rw (birth_is s h.0) (before_end sound keep stamps step last know events R N Vertex r h.0.stamp h.0.time u (omega (arith, h.2, clock_later sound keep stamps step last know R t u a)) (omega (arith, h.1)) b e)
+
+  ends_of : (e : ℕ) → Told sound keep stamps step last know events R N Edge e → Ends e
+  ends_of e h =
+      let x = edge_link sound keep stamps step last know events R N e h.0 in
+      let k = edge_keys sound keep stamps step last know R x.1 in
+      let u = binds_of sound keep stamps step last know R x.1 in
+      let o = h.0.before in
+      let c = birth_now sound keep stamps step last know events R N Edge e h.0 in
+      let second = clock_later sound keep stamps step last know R u.second h.0.time (omega (arith, u.between, u.after)) in
+      let third = clock_later sound keep stamps step last know R u.third h.0.time (omega (arith, u.after)) in
+      let d = x.0 in
+      record {
+        source_row = subst (λ y. y < suc (rows_all R.sizes Vertex)) (sym x.2.0) (row_in u.second d.source u.source.linked);
+        target_row = subst (λ y. y < suc (rows_all R.sizes Vertex)) (sym x.2.1) (row_in u.third d.target u.target.linked);
+        source_first = subst (λ y. Earlier (ins_at Vertex y) (ins_at Edge e)) (sym x.2.0) (rw h.1 (living_first u.second d.pair.from d.source h.0.stamp h.0.time k.0 (omega (arith, u.between, u.after)) u.source (omega (arith, c.0)) (omega (arith, u.between, u.after))));
+        target_first = subst (λ y. Earlier (ins_at Vertex y) (ins_at Edge e)) (sym x.2.1) (rw h.1 (living_first u.third d.pair.to d.target h.0.stamp h.0.time k.1 (omega (arith, u.after)) u.target (omega (arith, c.0)) (omega (arith, u.after))));
+        source_meets = subst (λ y. Earlier (ins_at Vertex y) (del_at Vertex (target_at e))) (sym x.2.0) (subst (λ y. Earlier (ins_at Vertex d.source) (del_at Vertex y)) (sym x.2.1)
+            (living_meets u.second d.pair.from d.source d.target u.third k.0 (omega (arith, u.between, u.after)) u.source (omega (arith, u.between)) (omega (arith, u.after)) u.target.alive));
+        target_meets = subst (λ y. Earlier (ins_at Vertex y) (del_at Vertex (source_at e))) (sym x.2.1) (subst (λ y. Earlier (ins_at Vertex d.target) (del_at Vertex y)) (sym x.2.0)
+            (living_meets u.early.time d.pair.to d.target d.source u.second k.1 (omega (arith, u.early.before, u.before, u.between, u.after)) u.early.held.1 (omega (arith, u.early.before, u.before)) (omega (arith, u.between, u.after)) u.source.alive));
+      }
+
+  -- two changes of one turn are one
+  link_no_end : (p b e q a r : ℕ) (c d : Change) → LinkEvent R p b c e → EndEvent R q a d r → ¬ (q ≡ p)
+  link_no_end p b e q a r c d ev fv y =
+      let gv : EndEvent R p a d r = subst (λ j. EndEvent R j a d r) y fv in
+      let t = same_turn sound keep stamps step last know R ev.step.turn gv.turn in
+      let z : place.Link c (head_at R p (change_head c)) ≡ place.End d r = t.1 in
+      absurd cc
+
+  ends_apart : (p b e q a r : ℕ) (c d : Change) → EndEvent R p b c e → EndEvent R q a d r → change_kind c ≡ Edge → change_kind d ≡ Vertex → ¬ (q ≡ p)
+  ends_apart p b e q a r c d ev fv k l y =
+      let gv : EndEvent R p a d r = subst (λ j. EndEvent R j a d r) y fv in
+      let t = same_turn sound keep stamps step last know R ev.turn gv.turn in
+      let z : c ≡ d = end_change sound keep stamps step last know R t.1 in
+      let w : Edge ≡ Vertex = sym k ∙ ap change_kind z ∙ l in
+      absurd cc
+
+  marks_of : Marks
+  marks_of = marks sound keep stamps step last know events R N
+
+  vertices_apart : (r s : ℕ) → key_of_row sound keep stamps step last know events R N r ≡ key_of_row sound keep stamps step last know events R N s → r ≢ s → Earlier (del_at Vertex r) (ins_at Vertex s) ⊎ Earlier (del_at Vertex s) (ins_at Vertex r)
+  vertices_apart r s q n = apart_by sound keep stamps step last know events R N Vertex r s n (vertex_older sound keep stamps step last know events R N r s q) (vertex_older sound keep stamps step last know events R N s r (sym q))
+
+  edges_apart : (e f : ℕ) → source_at e ≡ source_at f → target_at e ≡ target_at f → e ≢ f → Earlier (del_at Edge e) (ins_at Edge f) ⊎ Earlier (del_at Edge f) (ins_at Edge e)
+  edges_apart e f q r n = apart_by sound keep stamps step last know events R N Edge e f n (edge_older sound keep stamps step last know events R N e f q r) (edge_older sound keep stamps step last know events R N f e (sym q) (sym r))
+
+  pub marks_sound : Sound (time_bound N) (clock_at R N) (marks sound keep stamps step last know events R N)
+  marks_sound = record {
+    vertex_ins = λ r. (ins_small sound keep stamps step last know events R N Vertex r).0;
+    vertex_del = λ r. (del_small sound keep stamps step last know events R N Vertex r).0;
+    edge_ins = λ e. (ins_small sound keep stamps step last know events R N Edge e).0;
+    edge_del = λ e. (del_small sound keep stamps step last know events R N Edge e).0;
+    births = λ r. (ins_small sound keep stamps step last know events R N Vertex r).1;
+    vertex_order = mark_order sound keep stamps step last know events R N Vertex;
+    edge_order = mark_order sound keep stamps step last know events R N Edge;
+    vertex_apart = vertices_apart;
+    edge_apart = edges_apart;
+    source_row = λ e l. (ends_of e (born sound keep stamps step last know events R N Edge e l)).source_row;
+    target_row = λ e l. (ends_of e (born sound keep stamps step last know events R N Edge e l)).target_row;
+    source_first = λ e l. (ends_of e (born sound keep stamps step last know events R N Edge e l)).source_first;
+    target_first = λ e l. (ends_of e (born sound keep stamps step last know events R N Edge e l)).target_first;
+    source_meets = λ e l. (ends_of e (born sound keep stamps step last know events R N Edge e l)).source_meets;
+    target_meets = λ e l. (ends_of e (born sound keep stamps step last know events R N Edge e l)).target_meets;
+    ins_distinct = λ e r l q z.
+        let h = born sound keep stamps step last know events R N Edge e l in
+        let k = over sound keep stamps step last know events R N Vertex r (omega arith) in
+        link_no_end h.0.time h.0.linking.began e k.0.time k.0.ending.began r h.0.linking.change k.0.ending.change h.0.linking.event k.0.ending.event (ap (λ m. m.time) (sym k.1) ∙ z ∙ ap (λ m. m.time) h.1);
+    del_distinct = λ e r l q z.
+        let h = over sound keep stamps step last know events R N Edge e l in
+        let k = over sound keep stamps step last know events R N Vertex r (omega arith) in
+        ends_apart h.0.time h.0.ending.began e k.0.time k.0.ending.began r h.0.ending.change k.0.ending.change h.0.ending.event k.0.ending.event h.0.ending.kind k.0.ending.kind (ap (λ m. m.time) (sym k.1) ∙ z ∙ ap (λ m. m.time) h.1);
+  }
+
+pub runs_marked : RunsSound → RunsKeepLaws → RunsStamp → RunsStep → RunsLast → RunsKnow → RunsEvents → RunsMarked
+runs_marked sound keep stamps step last know events R N = record {
+  marks = marks sound keep stamps step last know events R N;
+  tells = marks_tell sound keep stamps step last know events R N;
+  sound = marks_sound sound keep stamps step last know events R N;
+}

@@ -1,0 +1,153 @@
+-- What holds of a run from one time to a later one, by induction over time.
+use Rattle.std.proofs.Common.{◌≡◌, ℕ, zero, suc, ◌<◌, ◌≤◌, ◌⊎◌, List, get_or, drop, replicate, sym, refl, ap, ◌∙◌, subst, inl, inr, ⊎_elim, arith}
+use Rattle.std.proofs.lemmas.List.{length-replicate, get_or-set_other, get_or_append_left}
+use Rattle.std.proofs.lemmas.Bool.{cases_lt}
+use Rattle.layout.specs.declared.names.Kind.{Kind}
+use Rattle.layout.specs.declared.names.Kind.TheVariants.{Vertex, Edge}
+use Rattle.layout.specs.declared.names.Field.{Field}
+use Rattle.layout.specs.declared.names.Field.TheVariants.{Ins}
+use Rattle.layout.specs.declared.names.Head.{Head}
+use Rattle.layout.specs.declared.names.Cell.TheVariants as cell
+use Rattle.layout.specs.declared.names.Head.TheVariants as head
+use Rattle.layout.specs.declared.sizes.Sizes.{Sizes}
+use Rattle.layout.specs.Layout.{index_of, needed, Named}
+use Rattle.layout.proofs.Regions.{index_lt}
+use Rattle.places.specs.declared.mark.Mark.{Mark}
+use Rattle.places.specs.declared.mark.Mark.TheVariants.{NotEnded, Pending, Stamp}
+use Rattle.places.specs.Touches.{change_head, head_kind}
+use Rattle.places.specs.Marks.{mark_of, pending}
+use Rattle.laws.specs.Changes.{number_in}
+use Rattle.laws.specs.Fits.{Linked}
+use Rattle.laws.specs.Stamps.{IsStamp, Holds, Holds.not_ended, Holds.waits, Holds.stamped, StampLaws, RunsStamp}
+use Rattle.stepper.specs.Opening.{cleared, opened_state}
+use Rattle.stepper.specs.Turns.{worker_at}
+use Rattle.stepper.specs.Workers.{fresh, nobody, linked_of}
+use Rattle.runs.specs.Runs.{Run, history_at}
+use Rattle.runs.specs.Views.{number_at, clock_at, head_at, mark_at, LinkedAt}
+use Rattle.runs.specs.Steps.{HeadSteps, HeadSteps.stays, HeadSteps.moves, MarkSteps, MarkSteps.same, MarkSteps.settled, MarkSteps.ended, Links, RunsStep}
+use Rattle.runs.specs.Times.{Past, LinkedBy, TimeLaws, LastingLaws, RunsLast}
+use Rattle.runs.proofs.Histories.{traced}
+use Rattle.runs.proofs.TurnSteps.{mark_stamp}
+
+-- what each step keeps holds at each later time
+pub kept_from : (P : ℕ → Type 0) (t : ℕ) → P t → ((j : ℕ) → t ≤ j → P j → P (suc j)) → (u : ℕ) → t ≤ u → P u
+kept_from P t h more zero l = let e : t ≡ zero = omega arith in subst P e h
+kept_from P t h more (suc u) l =
+    ⊎_elim (λ (a : t < suc u). more u (omega arith) (kept_from P t h more u (omega arith)))
+    (λ (a : suc u ≤ t). let e : t ≡ suc u = omega arith in subst P e h) (cases_lt t (suc u))
+
+pub past_later : {k u : ℕ} {P : ℕ → Type 0} → k ≤ u → Past k P → Past u P
+past_later l h = record { time = h.time; before = omega arith; held = h.held }
+
+pub stamp_step : {R : Run} {k : ℕ} {c : Kind} {f : Field} {r n : ℕ} {x y : Mark} → MarkSteps R k c f r x y → x ≡ Stamp n → y ≡ Stamp n
+stamp_step (same e) s = e ∙ s
+stamp_step (settled w n p a e i q g) s = absurd cc
+stamp_step (ended w d a e i q g) s = absurd cc
+
+pub begun_step : {R : Run} {k : ℕ} {c : Kind} {f : Field} {r : ℕ} {x y : Mark} → MarkSteps R k c f r x y → ¬ (x ≡ NotEnded) → ¬ (y ≡ NotEnded)
+begun_step (same e) s g = s (sym e ∙ g)
+begun_step (settled w n p a e i q h) s g = absurd cc
+begun_step (ended w d a e i q h) s g = s q
+
+module _ (step : RunsStep) (R : Run) where
+  linked_later : (t u : ℕ) → t ≤ u → (c : Kind) (r : ℕ) → LinkedAt R t c r → LinkedAt R u c r
+  linked_later t u l c r h = kept_from (λ j. LinkedAt R j c r) t h (λ j a. (step R j).linked c r) u l
+
+  clock_later : (t u : ℕ) → t ≤ u → clock_at R t ≤ clock_at R u
+  clock_later t u l = kept_from (λ j. clock_at R t ≤ clock_at R j) t (omega arith) (λ j a h. omega (arith, h, (step R j).clock)) u l
+
+  -- what each step keeps of a linked row
+  row_later : (P : ℕ → Type 0) (c : Kind) (r t : ℕ) → LinkedAt R t c r → P t → ((j : ℕ) → LinkedAt R j c r → P j → P (suc j)) → (u : ℕ) → t ≤ u → P u
+  row_later P c r t k h more u l = kept_from P t h (λ j a. more j (linked_later t j a c r k)) u l
+
+  -- the head is as it was, or was linked since
+  abbrev Comes : ℕ → Head → ℕ → Type 0
+  Comes t h u = (head_at R u h ≡ head_at R t h) ⊎ Past u (λ p. (t ≤ p) × LinkedBy R p h (head_at R u h))
+
+  comes_step : (t : ℕ) (h : Head) (j : ℕ) → t ≤ j → HeadSteps R j h (head_at R (suc j) h) → Comes t h j → Comes t h (suc j)
+  comes_step t h j a (moves d e s) c = inr (record { time = j; before = omega arith; held = (a, record { change = d; head = e; step = s }) })
+  comes_step t h j a (stays e) (inl g) = inl (e ∙ g)
+  comes_step t h j a (stays e) (inr p) = inr (record { time = p.time; before = omega (arith, p.before); held = (p.held.0, subst (LinkedBy R p.time h) (sym e) p.held.1) })
+
+  comes : (t u : ℕ) → t ≤ u → (h : Head) → Named R.sizes (cell.Head h) → Comes t h u
+  comes t u l h n = kept_from (Comes t h) t (inl refl) (λ j a. comes_step t h j a ((step R j).heads h n)) u l
+
+  pub time_laws : (t u : ℕ) → t ≤ u → TimeLaws R t u
+  time_laws t u l = record {
+    clock = clock_later t u l;
+    linked = linked_later t u l;
+    stamp = λ c f r n k e. row_later (λ j. mark_at R j c f r ≡ Stamp n) c r t k e (λ j a. stamp_step ((step R j).marks c f r a)) u l;
+    begun = λ c f r k n. row_later (λ j. ¬ (mark_at R j c f r ≡ NotEnded)) c r t k n (λ j a. begun_step ((step R j).marks c f r a)) u l;
+    older = λ c r k. row_later (λ j. number_at R j (cell.Older c r) ≡ number_at R t (cell.Older c r)) c r t k refl (λ j a e. (step R j).older c r a ∙ e) u l;
+    source = λ r k. row_later (λ j. number_at R j (cell.Source r) ≡ number_at R t (cell.Source r)) Edge r t k refl (λ j a e. (step R j).source r a ∙ e) u l;
+    target = λ r k. row_later (λ j. number_at R j (cell.Target r) ≡ number_at R t (cell.Target r)) Edge r t k refl (λ j a e. (step R j).target r a ∙ e) u l;
+    weight = λ r k. row_later (λ j. number_at R j (cell.Weight r) ≡ number_at R t (cell.Weight r)) Edge r t k refl (λ j a e. (step R j).weight r a ∙ e) u l;
+    head = comes t u l;
+  }
+
+-- each item of a list of copies is the copy, or the one that stands for none
+pub copies : {A : Type 0} (P : A → Type 0) (m i : ℕ) (x d : A) → P x → P d → P (get_or (replicate m x) i d)
+copies P zero i x d a b = b
+copies P (suc m) zero x d a b = a
+copies P (suc m) (suc i) x d a b = copies P m i x d a b
+
+not_first : (z : Sizes) (h : Head) → ¬ (index_of z (cell.Head h) ≡ 0)
+not_first z (head.Vertex i) e = omega arith
+not_first z (head.Edge i j) e = omega arith
+
+-- the opening has no rows
+module _ (z : Sizes) (cs : List ℕ) where
+  opened_counts : (v : ℕ) (k : Kind) → linked_of (worker_at (opened_state cs z) v) k ≡ 0
+  opened_counts v Vertex = copies (λ u. linked_of u Vertex ≡ 0) 8 v fresh nobody refl refl
+  opened_counts v Edge = copies (λ u. linked_of u Edge ≡ 0) 8 v fresh nobody refl refl
+
+  opened_head : (h : Head) → Named z (cell.Head h) → number_in (opened_state cs z) (cell.Head h) ≡ 0
+  opened_head h n =
+      get_or-set_other (cleared (needed z) cs) 0 (index_of z (cell.Head h)) 1 0 (not_first z h)
+      ∙ get_or_append_left (replicate (needed z) 0) (drop (needed z) cs) 0 (index_of z (cell.Head h)) (simp length-replicate (index_lt z (cell.Head h) n))
+      ∙ copies (λ (x : ℕ). x ≡ 0) (needed z) (index_of z (cell.Head h)) 0 0 refl refl
+
+  opened_linked : (k : Kind) (r : ℕ) → ¬ (Linked (opened_state cs z) k r)
+  opened_linked k r l = omega (arith, l.before, opened_counts l.owner k)
+
+module _ (stamp : RunsStamp) (step : RunsStep) (R : Run) where
+  none_linked : (c : Kind) (r : ℕ) → ¬ (LinkedAt R zero c r)
+  none_linked c r l = opened_linked R.sizes R.cells c r (subst (λ s. Linked s c r) R.start l)
+
+  no_head : (h : Head) → Named R.sizes (cell.Head h) → head_at R zero h ≡ 0
+  no_head h n = subst (λ s. number_in s (cell.Head h) ≡ 0) (sym R.start) (opened_head R.sizes R.cells h n)
+
+  head_linked : (k : ℕ) (h : Head) → Named R.sizes (cell.Head h) → 0 < head_at R k h → Past k (λ p. LinkedBy R p h (head_at R k h))
+  head_linked k h n l =
+      ⊎_elim (λ (e : head_at R k h ≡ head_at R zero h). absurd (omega (arith, e, no_head h n, l)))
+      (λ (p : Past k (λ p. (zero ≤ p) × LinkedBy R p h (head_at R k h))). record { time = p.time; before = p.before; held = p.held.1 })
+      ((time_laws step R zero k (omega arith)).head h n)
+
+  was_linked : (k : ℕ) (c : Kind) (r : ℕ) → LinkedAt R k c r → Past k (λ p. (h : Head) × (head_kind h ≡ c) × LinkedBy R p h r)
+  was_linked zero c r l = absurd (none_linked c r l)
+  was_linked (suc k) c r l =
+      ⊎_elim (λ (o : LinkedAt R k c r). past_later (omega arith) (was_linked k c r o))
+      (λ (m : Links R k c r). record { time = k; before = omega arith; held = (change_head m.change, m.kind, record { change = m.change; head = refl; step = m.step }) })
+      ((step R k).news c r l)
+
+  stamps_at : (k : ℕ) → StampLaws (opened_state R.cells R.sizes) (history_at R k) (R.state k)
+  stamps_at k = stamp R.sizes R.cells R.room (history_at R k) (R.state k) (traced R k)
+
+  ins_holds : (z : Sizes) (x : ℕ) → ((n : ℕ) → IsStamp z n → ¬ (n ≡ 0) × ¬ (n ≡ pending)) → Holds z Ins x → ¬ (mark_of x ≡ NotEnded)
+  ins_holds z x a (not_ended e q) g = absurd cc
+  ins_holds z x a (waits e) g = let p : mark_of x ≡ Pending = ap mark_of e in absurd cc
+  ins_holds z x a (stamped i) g = let p : mark_of x ≡ Stamp x = mark_stamp x (a x i) in absurd cc
+
+  pub lasting_laws : LastingLaws R
+  lasting_laws = record {
+    times = time_laws step R;
+    clock = λ k. subst (λ z. IsStamp z (clock_at R k)) (stamps_at k).sizes (stamps_at k).clock;
+    none_linked = none_linked;
+    no_head = no_head;
+    head = head_linked;
+    linked = was_linked;
+    filled = λ k c r l. ins_holds (R.state k).sizes (number_at R k (cell.Stamp c Ins r)) (stamps_at k).apart ((stamps_at k).fields c Ins r l);
+  }
+
+pub runs_last : RunsStamp → RunsStep → RunsLast
+runs_last stamp step R = lasting_laws stamp step R

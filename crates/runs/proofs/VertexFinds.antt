@@ -1,0 +1,182 @@
+-- What a call finds of the vertex of a key.
+use Rattle.std.proofs.Common.{◌≡◌, ℕ, suc, ◌<◌, ◌≤◌, true, false, ◌⊎◌, sym, refl, ap, ◌∙◌, subst, inl, inr, ⊎_elim, arith}
+use Rattle.std.proofs.lemmas.Bool.{cases_lt, cases_eq}
+use Rattle.layout.specs.declared.names.Kind.{Kind}
+use Rattle.layout.specs.declared.names.Kind.TheVariants.{Vertex}
+use Rattle.layout.specs.declared.names.Field.{Field}
+use Rattle.layout.specs.declared.names.Field.TheVariants.{Ins, Del}
+use Rattle.layout.specs.declared.names.Head.TheVariants as head
+use Rattle.layout.specs.declared.sizes.Sizes.{Sizes}
+use Rattle.layout.specs.Rows.{rows_all}
+use Rattle.places.specs.declared.mark.Mark.TheVariants.{NotEnded, Stamp}
+use Rattle.places.specs.declared.place.Change.{Change}
+use Rattle.places.specs.declared.place.Change.TheVariants as change
+use Rattle.laws.specs.Sound.{RunsSound, RunsKeepLaws}
+use Rattle.laws.specs.Stamps.{RunsStamp}
+use Rattle.order.specs.Marks.{Mark, Earlier, Marks, Sound}
+use Rattle.order.specs.Finds.{Before, After, VertexFound}
+use Rattle.runs.specs.Runs.{Run}
+use Rattle.runs.specs.Views.{clock_at, head_at, mark_at, LinkedAt}
+use Rattle.runs.specs.Seen.{open_at}
+use Rattle.runs.specs.Steps.{RunsStep}
+use Rattle.runs.specs.Times.{RunsLast}
+use Rattle.runs.specs.Known.{TurnOf, Stamped, Dead, Living, LinkEvent, ChangeEvent}
+use Rattle.runs.specs.Reasons.{RunsKnow}
+use Rattle.runs.specs.Events.{Linking, Ending, RunsEvents}
+use Rattle.runs.specs.Marking.{time_bound, MarksTell}
+use Rattle.runs.specs.VertexFinds.{turn_key, after_key, MadeNone, VertexFinds, RunsFindVertices}
+use Rattle.runs.proofs.Links.{linked_is_row}
+use Rattle.runs.proofs.Steps.{sizes_at}
+use Rattle.runs.proofs.Heads.{row_pos, stays_or_dead}
+use Rattle.runs.proofs.Events.{worker_knows, stamp_kept, clock_later, linked_later, linked_from, living_link}
+use Rattle.runs.proofs.Births.{vertex_change, Birth, End, born_or, ended_or, birth_now, ended_by, ends_after, living_birth}
+use Rattle.runs.proofs.MarkLaws.{earlier}
+use Rattle.runs.proofs.Once.{by_turn, same_turner, same_some}
+
+then_earlier : (x y z : Mark) → Earlier x y → Earlier y z → Earlier x z
+then_earlier x y z (inl a) (inl b) = inl (omega arith)
+then_earlier x y z (inl a) (inr b) = inl (omega (arith, b.0))
+then_earlier x y z (inr a) (inl b) = inl (omega (arith, a.0))
+then_earlier x y z (inr a) (inr b) = inr (a.0 ∙ b.0, omega (arith, a.1, b.1))
+
+module _ (sound : RunsSound) (keep : RunsKeepLaws) (stamps : RunsStamp) (step : RunsStep) (last : RunsLast) (know : RunsKnow) (events : RunsEvents) (R : Run) (N : ℕ) (m : Marks) (tell : MarksTell R N m) (ok : Sound (time_bound N) (clock_at R N) m) where
+  abbrev Born : ℕ → Type 0
+  Born r = Birth sound keep stamps step last know events R N Vertex r
+
+  abbrev Ended : ℕ → Type 0
+  Ended r = End sound keep stamps step last know events R N Vertex r
+
+  birth_is : (r : ℕ) (h : Born r) → m.vertex_ins r ≡ record { stamp = h.stamp; time = h.time }
+  birth_is r h = tell.born Vertex r h.time h.stamp h.linked h.linking h.is
+
+  end_is : (r : ℕ) (h : Ended r) → m.vertex_del r ≡ record { stamp = h.stamp; time = h.time }
+  end_is r h = tell.ended Vertex r h.time h.stamp h.linked h.ending h.is
+
+  abbrev pub now_mark : ℕ → Mark
+  now_mark t = record { stamp = clock_at R t; time = t }
+
+  -- a change and a turn of a call that made none are at different times
+  pub other_time : (b t : ℕ) → MadeNone R N b → TurnOf R t b → t < N → (f : Field) (p a : ℕ) (d : Change) (r : ℕ) → ChangeEvent R f p a d r → ¬ (p ≡ t)
+  other_time b t none u l f p a d r ev e =
+      let fv : ChangeEvent R f t a d r = subst (λ j. ChangeEvent R f j a d r) e ev in
+      let x = by_turn sound keep stamps step last know R f t a d r fv in
+      let w : x.worker ≡ u.worker = same_turner sound keep stamps step last know R x.asked u.asked in
+      let q : a ≡ b = same_some sound keep stamps step last know R (sym x.whose ∙ ap (open_at R t) w ∙ u.whose) in
+      none f t d r l (subst (λ j. ChangeEvent R f t j d r) q fv)
+
+  event_of : (r : ℕ) (h : Born r) → (i : ℕ) × LinkEvent R h.time h.linking.began (change.Vertex i) r
+  event_of r h = let x = vertex_change h.linking.change h.linking.kind in (x.0, subst (λ d. LinkEvent R h.time h.linking.began d r) x.1 h.linking.event)
+
+  -- what had not ended at a turn of such a call ends later
+  ends_later : (b t r : ℕ) → MadeNone R N b → TurnOf R t b → t < N → mark_at R t Vertex Del r ≡ NotEnded → Earlier (now_mark t) (m.vertex_del r)
+  ends_later b t r none u l e =
+      ⊎_elim
+      (λ (h : Ended r).
+      let z = ends_after sound keep stamps step last know events R N Vertex r h t e in
+      let y = other_time b t none u l Del h.time h.ending.began h.ending.change r h.ending.event in
+      subst (Earlier (now_mark t)) (sym (end_is r h)) (earlier (clock_at R t) t h.stamp h.time z.1 (omega (arith, z.0, y))))
+      (λ (n : ¬ (LinkedAt R N Vertex r × Stamped R N Vertex Del r)). subst (Earlier (now_mark t)) (sym (tell.unended Vertex r n)) (inl (omega (arith, clock_later sound keep stamps step last know R t N (omega arith)))))
+      (ended_or sound keep stamps step last know events R N Vertex r)
+
+  found_here : (b t i r : ℕ) → MadeNone R N b → TurnOf R t b → t < N → i < R.sizes.keys → Living R t i r → VertexFound (time_bound N) m (turn_key R N t) i true
+  found_here b t i r none u l k v =
+      let h = living_birth sound keep stamps step last know events R N t i r k (omega arith) v in
+      let p = living_link sound keep stamps step last know R k v in
+      let small : rows_all (R.state t).sizes Vertex ≡ rows_all R.sizes Vertex = ap (λ (z : Sizes). rows_all z Vertex) (sizes_at sound keep stamps R t) in (
+        r,
+        record {
+          row = omega (arith, tell.vertices, (linked_is_row (R.state t) Vertex r v.linked).1);
+          born = inl (subst (λ x. Earlier x (now_mark t)) (sym (birth_is r h.0)) (earlier h.0.stamp h.0.time (clock_at R t) t h.2 h.1));
+          ends = ends_later b t r none u l v.alive;
+        },
+        tell.key p.time p.held.0 i r p.held.1 (omega (arith, p.before)),
+      )
+
+  -- a row of the key at a turn at which the head was no row, or one that had ended
+  found_absent : (b t i r : ℕ) → MadeNone R N b → TurnOf R t b → t < N → i < R.sizes.keys → head_at R t (head.Vertex i) ≡ r → (r ≡ 0) ⊎ Earlier (m.vertex_del r) (now_mark t) → VertexFound (time_bound N) m (turn_key R N t) i false
+  found_absent b t i r none u l k e d = λ s q. go s q (born_or sound keep stamps step last know events R N Vertex s)
+    where
+      dead : (s : ℕ) → Dead R t s → After (turn_key R N t) (m.vertex_ins s) ⊎ Before (time_bound N) (turn_key R N t) (m.vertex_del s)
+      dead s z =
+          let x = ended_by sound keep stamps step last know events R N Vertex s t (omega arith) z.linked z.ended in
+          inr (inl (subst (λ y. Earlier y (now_mark t)) (sym (end_is s x.0)) (earlier x.0.stamp x.0.time (clock_at R t) t x.2 x.1)))
+
+      head_ended : (s : ℕ) → s ≡ r → 0 < s → (r ≡ 0) ⊎ Earlier (m.vertex_del r) (now_mark t) → After (turn_key R N t) (m.vertex_ins s) ⊎ Before (time_bound N) (turn_key R N t) (m.vertex_del s)
+      head_ended s x p (inl z) = absurd (omega arith)
+      head_ended s x p (inr z) = inr (inl (subst (λ y. Earlier (m.vertex_del y) (now_mark t)) (sym x) z))
+
+      older : (s p a : ℕ) → LinkEvent R p a (change.Vertex i) s → p < t → After (turn_key R N t) (m.vertex_ins s) ⊎ Before (time_bound N) (turn_key R N t) (m.vertex_del s)
+      older s p a ev z =
+          let pos = row_pos R (suc p) s ev.step.linked in
+          ⊎_elim (λ (y : head_at R t (head.Vertex i) ≡ s). head_ended s (sym y ∙ e) pos d) (λ (y : Dead R t s). dead s y)
+          (stays_or_dead step last R t (worker_knows sound keep stamps step last know R t) i k s (suc p) t pos z (omega arith) ev.step.head)
+
+      newer : (s : ℕ) (h : Born s) → t ≤ h.time → After (turn_key R N t) (m.vertex_ins s) ⊎ Before (time_bound N) (turn_key R N t) (m.vertex_del s)
+      newer s h z =
+          let y = other_time b t none u l Ins h.time h.linking.began h.linking.change s h.linking.event in
+          let c = birth_now sound keep stamps step last know events R N Vertex s h in
+          let g = clock_later sound keep stamps step last know R t h.time z in
+          inl (subst (Earlier (now_mark t)) (sym (birth_is s h)) (earlier (clock_at R t) t h.stamp h.time (omega (arith, c.0)) (omega (arith, y))))
+
+      go : (s : ℕ) → m.key_of s ≡ i → Born s ⊎ ¬ (LinkedAt R N Vertex s × Stamped R N Vertex Ins s) → After (turn_key R N t) (m.vertex_ins s) ⊎ Before (time_bound N) (turn_key R N t) (m.vertex_del s)
+      go s q (inr n) = inl (subst (Earlier (now_mark t)) (sym (tell.unborn Vertex s n)) (inl (omega (arith, clock_later sound keep stamps step last know R t N (omega arith)))))
+      go s q (inl h) =
+          let x = event_of s h in
+          let j : x.0 ≡ i = sym (tell.key h.time h.linking.began x.0 s x.1 h.before) ∙ q in
+          ⊎_elim (λ (z : h.time < t). older s h.time h.linking.began (subst (λ y. LinkEvent R h.time h.linking.began (change.Vertex y) s) j x.1) z) (λ (z : t ≤ h.time). newer s h z) (cases_lt h.time t)
+
+  -- right after the birth of a row of the key
+  found_born : (b i r a q n : ℕ) → LinkEvent R q a (change.Vertex i) r → q < N → mark_at R N Vertex Ins r ≡ Stamp n → VertexFound (time_bound N) m (after_key R N n q b) i true
+  found_born b i r a q n ev l e =
+      let on : LinkedAt R N Vertex r = linked_later sound keep stamps step last know R (suc q) N Vertex r l ev.step.linked in
+      let y : Linking R Vertex r q = record { began = a; change = change.Vertex i; kind = refl; event = ev } in
+      let is : m.vertex_ins r ≡ record { stamp = n; time = q } = tell.born Vertex r q n on y e in
+      let small : rows_all (R.state N).sizes Vertex ≡ rows_all R.sizes Vertex = ap (λ (z : Sizes). rows_all z Vertex) (sizes_at sound keep stamps R N) in
+      let low : (m.vertex_ins r).stamp ≤ clock_at R N = subst (λ (w : Mark). w.stamp ≤ clock_at R N) (sym is) ((events R).link_stamp Vertex r q N n y l e).1 in (
+        r,
+        record {
+          row = omega (arith, tell.vertices, (linked_is_row (R.state N) Vertex r on).1);
+          born = inr (ap (λ (z : Mark). z.stamp) is, ap (λ (z : Mark). z.time) is, omega arith);
+          ends = subst (λ (w : Mark). Earlier w (m.vertex_del r)) is (ok.vertex_order r low);
+        },
+        tell.key q a i r ev l,
+      )
+
+  -- right after the end of a row of the key
+  found_ended : (b i r a q p n : ℕ) → LinkEvent R q a (change.Vertex i) r → Ending R Vertex r p → p < N → mark_at R N Vertex Del r ≡ Stamp n → VertexFound (time_bound N) m (after_key R N n p b) i false
+  found_ended b i r a q p n ev x l e = λ s k. go s k (cases_eq s r)
+    where
+      at_end : LinkedAt R p Vertex r
+      at_end = subst (λ (u : Kind). LinkedAt R p u r) x.kind x.event.linked
+
+      on : LinkedAt R N Vertex r
+      on = linked_later sound keep stamps step last know R p N Vertex r (omega arith) at_end
+
+      del_is : m.vertex_del r ≡ record { stamp = n; time = p }
+      del_is = tell.ended Vertex r p n on x e
+
+      linked_first : q < N
+      linked_first = omega (arith, l, linked_from sound keep stamps step last know R ev p at_end)
+
+      born_stamp : (m.vertex_ins r).stamp ≤ clock_at R N
+      born_stamp =
+          let s = x.event.born in
+          let t : mark_at R N Vertex Ins r ≡ Stamp s.number = stamp_kept sound keep stamps step last know R p N Vertex Ins r s.number (omega arith) at_end (subst (λ (u : Kind). mark_at R p u Ins r ≡ Stamp s.number) x.kind s.is) in
+          let y : Linking R Vertex r q = record { began = a; change = change.Vertex i; kind = refl; event = ev } in
+          let z = (events R).link_stamp Vertex r q N s.number y linked_first t in
+          subst (λ (w : Mark). w.stamp ≤ clock_at R N) (sym (tell.born Vertex r q s.number on y t)) z.1
+
+      go : (s : ℕ) → m.key_of s ≡ i → (s ≡ r) ⊎ ¬ (s ≡ r) → After (after_key R N n p b) (m.vertex_ins s) ⊎ Before (time_bound N) (after_key R N n p b) (m.vertex_del s)
+      go s k (inl y) = inr (inr (ap (λ z. (m.vertex_del z).stamp) y ∙ ap (λ z. z.stamp) del_is, ap (λ z. (m.vertex_del z).time) y ∙ ap (λ z. z.time) del_is, omega arith))
+      go s k (inr y) =
+          let same_key : m.key_of r ≡ m.key_of s = tell.key q a i r ev linked_first ∙ sym k in
+          ⊎_elim
+          (λ (z : Earlier (m.vertex_del r) (m.vertex_ins s)). inl (subst (λ w. Earlier w (m.vertex_ins s)) del_is z))
+          (λ (z : Earlier (m.vertex_del s) (m.vertex_ins r)). inr (inl (subst (Earlier (m.vertex_del s)) del_is (then_earlier _ _ _ z (ok.vertex_order r born_stamp)))))
+          (ok.vertex_apart r s same_key (λ z. y (sym z)))
+
+  pub vertex_finds : VertexFinds R N m
+  vertex_finds = record { here = found_here; absent = found_absent; born = found_born; ended = found_ended }
+
+pub runs_find_vertices : RunsSound → RunsKeepLaws → RunsStamp → RunsStep → RunsLast → RunsKnow → RunsEvents → RunsFindVertices
+runs_find_vertices sound keep stamps step last know events R N m tell ok = vertex_finds sound keep stamps step last know events R N m tell ok

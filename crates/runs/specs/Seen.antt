@@ -1,0 +1,31 @@
+-- What is seen of a run at each time: requests, replies and pages.
+use Rattle.std.specs.Prelude.{ℕ, suc, drop, take, Option}
+use Rattle.layout.specs.Layout.{page_size, page_start}
+use Rattle.places.specs.Calls.{call_named}
+use Rattle.stepper.specs.declared.request.Request.{Request}
+use Rattle.stepper.specs.declared.request.Request.TheVariants as request
+use Rattle.stepper.specs.declared.request.Reply.{Reply}
+use Rattle.stepper.specs.declared.request.Reply.TheVariants as reply
+use Rattle.stepper.specs.States.{State}
+use Rattle.stepper.specs.Requests.{reply_of}
+use Rattle.questions.specs.Graph.{Graph}
+use Rattle.questions.specs.Pages.{shown}
+use Rattle.order.specs.Seen.{Sight, Sight.begins, Sight.finishes, Sight.neither, open_call}
+use Rattle.runs.specs.Runs.{Run}
+
+-- what the page of worker w shows
+abbrev pub page_graph : State → ℕ → Graph
+page_graph s w = shown (take (page_size s.sizes) (drop (page_start s.sizes w) s.cells)) s.sizes.keys
+
+-- what is seen of a request and its reply, where the pages show these graphs
+abbrev pub sight_of : (ℕ → Graph) → Request → Reply → Sight
+sight_of pages (request.Begin b) reply.Done = begins b.worker (call_named b)
+sight_of pages (request.Turn w) (reply.Answered a) = finishes w a (pages w)
+sight_of pages q r = neither
+
+abbrev pub seen : Run → ℕ → Sight
+seen R k = sight_of (page_graph (R.state (suc k))) (R.request k) (reply_of (R.state k) (R.request k))
+
+-- the call that worker w has open at time k, by the time at which it began
+abbrev pub open_at : Run → ℕ → ℕ → Option ℕ
+open_at R k w = open_call (seen R) k w

@@ -1,0 +1,62 @@
+-- What holds of a run from one time to a later one.
+use Rattle.std.specs.Prelude.{◌≡◌, ℕ, zero, ◌<◌, ◌≤◌, ◌⊎◌}
+use Rattle.layout.specs.declared.names.Kind.{Kind}
+use Rattle.layout.specs.declared.names.Kind.TheVariants.{Edge}
+use Rattle.layout.specs.declared.names.Field.{Field}
+use Rattle.layout.specs.declared.names.Field.TheVariants.{Ins}
+use Rattle.layout.specs.declared.names.Head.{Head}
+use Rattle.layout.specs.declared.names.Cell.TheVariants as cell
+use Rattle.layout.specs.Layout.{Named}
+use Rattle.places.specs.declared.mark.Mark.TheVariants.{NotEnded, Stamp}
+use Rattle.places.specs.declared.place.Change.{Change}
+use Rattle.places.specs.Touches.{change_head, head_kind}
+use Rattle.laws.specs.Stamps.{IsStamp}
+use Rattle.runs.specs.Runs.{Run}
+use Rattle.runs.specs.Views.{number_at, clock_at, head_at, mark_at, LinkedAt}
+use Rattle.runs.specs.Steps.{LinkStep}
+
+-- something held at a time before k
+pub record Past (k : ℕ) (P : ℕ → Type 0) : Type 0 where
+  pub time : ℕ
+  pub before : time < k
+  pub held : P time
+
+module _ (R : Run) where
+  -- turn p linked row r at a head
+  pub record LinkedBy (p : ℕ) (h : Head) (r : ℕ) : Type 0 where
+    pub change : Change
+    pub head : change_head change ≡ h
+    pub step : LinkStep R p change r
+
+  pub record TimeLaws (t u : ℕ) : Type 0 where
+    -- the clock never falls
+    pub clock : clock_at R t ≤ clock_at R u
+    -- linked rows stay linked
+    pub linked : (c : Kind) (r : ℕ) → LinkedAt R t c r → LinkedAt R u c r
+    -- a stamp stays, and what is pending or a stamp is never again not ended
+    pub stamp : (c : Kind) (f : Field) (r n : ℕ) → LinkedAt R t c r → mark_at R t c f r ≡ Stamp n → mark_at R u c f r ≡ Stamp n
+    pub begun : (c : Kind) (f : Field) (r : ℕ) → LinkedAt R t c r → ¬ (mark_at R t c f r ≡ NotEnded) → ¬ (mark_at R u c f r ≡ NotEnded)
+    -- older, source, target and weight of a linked row stay
+    pub older : (c : Kind) (r : ℕ) → LinkedAt R t c r → number_at R u (cell.Older c r) ≡ number_at R t (cell.Older c r)
+    pub source : (r : ℕ) → LinkedAt R t Edge r → number_at R u (cell.Source r) ≡ number_at R t (cell.Source r)
+    pub target : (r : ℕ) → LinkedAt R t Edge r → number_at R u (cell.Target r) ≡ number_at R t (cell.Target r)
+    pub weight : (r : ℕ) → LinkedAt R t Edge r → number_at R u (cell.Weight r) ≡ number_at R t (cell.Weight r)
+    -- a head is as it was, or is a row that was linked there since
+    pub head : (h : Head) → Named R.sizes (cell.Head h) → (head_at R u h ≡ head_at R t h) ⊎ Past u (λ p. (t ≤ p) × LinkedBy p h (head_at R u h))
+
+  pub record LastingLaws : Type 0 where
+    pub times : (t u : ℕ) → t ≤ u → TimeLaws t u
+    -- the clock is 1 to T
+    pub clock : (k : ℕ) → IsStamp R.sizes (clock_at R k)
+    -- no row is linked at the start, and no head is a row
+    pub none_linked : (c : Kind) (r : ℕ) → ¬ (LinkedAt R zero c r)
+    pub no_head : (h : Head) → Named R.sizes (cell.Head h) → head_at R zero h ≡ 0
+    -- a head that is a row was linked there before
+    pub head : (k : ℕ) (h : Head) → Named R.sizes (cell.Head h) → 0 < head_at R k h → Past k (λ p. LinkedBy p h (head_at R k h))
+    -- a linked row was linked before
+    pub linked : (k : ℕ) (c : Kind) (r : ℕ) → LinkedAt R k c r → Past k (λ p. (h : Head) × (head_kind h ≡ c) × LinkedBy p h r)
+    -- ins of a linked row is pending or a stamp
+    pub filled : (k : ℕ) (c : Kind) (r : ℕ) → LinkedAt R k c r → ¬ (mark_at R k c Ins r ≡ NotEnded)
+
+abbrev pub RunsLast : Type 0
+RunsLast = (R : Run) → LastingLaws R
