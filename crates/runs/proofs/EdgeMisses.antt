@@ -148,7 +148,7 @@ module _ (sound : RunsSound) (keep : RunsKeepLaws) (stamps : RunsStamp) (step : 
     older e x p q y ev s t l (lone (inr z)) = absurd (dead_not sound keep stamps step last know R second d.target (dead_kept sound keep stamps step last know R read second d.target (omega (arith, read_first, first_second)) (subst (Dead R read) t z)) target_seen.alive)
 
     edge_gone : EdgeFound (time_bound N) m c d.source d.target false
-    edge_gone e p q = go (born_or sound keep stamps step last know events R N Edge e)
+    edge_gone e _ p q = go (born_or sound keep stamps step last know events R N Edge e)
       where
         go : Born e ⊎ ¬ (LinkedAt R N Edge e × Stamped R N Edge Ins e) → After c (m.edge_ins e) ⊎ Before (time_bound N) c (m.edge_del e)
         go (inr n) = inl (subst (Earlier (mark_of c)) (sym (tell.unborn Edge e n)) (inl (omega (arith, soon, clocks first N (omega (arith, first_second, second_now))))))

@@ -94,7 +94,7 @@ module _ (sound : RunsSound) (keep : RunsKeepLaws) (stamps : RunsStamp) (step : 
 
   -- a row of the key at a turn at which the head was no row, or one that had ended
   found_absent : (b t i r : ℕ) → MadeNone R N b → TurnOf R t b → t < N → i < R.sizes.keys → head_at R t (head.Vertex i) ≡ r → (r ≡ 0) ⊎ Earlier (m.vertex_del r) (now_mark t) → VertexFound (time_bound N) m (turn_key R N t) i false
-  found_absent b t i r none u l k e d = λ s q. go s q (born_or sound keep stamps step last know events R N Vertex s)
+  found_absent b t i r none u l k e d = λ s _ q. go s q (born_or sound keep stamps step last know events R N Vertex s)
     where
       dead : (s : ℕ) → Dead R t s → After (turn_key R N t) (m.vertex_ins s) ⊎ Before (time_bound N) (turn_key R N t) (m.vertex_del s)
       dead s z =
@@ -144,7 +144,7 @@ module _ (sound : RunsSound) (keep : RunsKeepLaws) (stamps : RunsStamp) (step : 
 
   -- right after the end of a row of the key
   found_ended : (b i r a q p n : ℕ) → LinkEvent R q a (change.Vertex i) r → Ending R Vertex r p → p < N → mark_at R N Vertex Del r ≡ Stamp n → VertexFound (time_bound N) m (after_key R N n p b) i false
-  found_ended b i r a q p n ev x l e = λ s k. go s k (cases_eq s r)
+  found_ended b i r a q p n ev x l e = λ s _ k. go s k (cases_eq s r)
     where
       at_end : LinkedAt R p Vertex r
       at_end = subst (λ (u : Kind). LinkedAt R p u r) x.kind x.event.linked
