@@ -22,7 +22,7 @@ right_at_raise show c n law v began k a g d (with_page e h r) = record {
   next = r.was.2;
   says = λ l bound top m u tell sound settled b t. (
       let raise : Raise (λ j. (c.at j).clock) r.time g.book.t = record { rises = λ i j w. clock_mono c n law i j w; from = r.was.1; next = r.was.2 } in
-      let shows = (show (λ j. (c.at j).clock) bound top m sound r.time g.book.t b t raise settled).0 in
+      let shows = (show (λ j. (c.at j).clock) bound top m sound r.time g.book.t b t raise settled).shows in
       says c n law k l u v a g.book g.page h _ (marks_show c n law l top m tell g.book.t t _ shows) e);
 }
 right_at_raise show c n law v began k a g d clock_spent = absurd (d refl)

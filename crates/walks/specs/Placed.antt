@@ -5,7 +5,8 @@ use Rattle.codes.specs.declared.answer.Answer.{Answer}
 use Rattle.codes.specs.declared.answer.Answer.TheVariants.{ClockSpent}
 use Rattle.places.specs.declared.place.Survey.{Survey}
 use Rattle.order.specs.Marks.{Marks, Sound}
-use Rattle.order.specs.Raises.{AllSettled, raise_graph}
+use Rattle.order.specs.Raises.{AllSettled, raise_key}
+use Rattle.order.specs.Rows.{graph_before}
 use Rattle.walks.specs.Courses.{Course, Laws}
 use Rattle.walks.specs.Pages.{graph_of}
 use Rattle.walks.specs.Surveys.{Surveyor, Going, turn_of, TurnDone, Surveying, Says}
@@ -19,7 +20,7 @@ pub record RightAtRaise (c : Course) (n : ℕ) (v : Survey) (began k : ℕ) (a :
   pub from : (c.at time).clock ≡ g.book.t
   pub next : (c.at (suc time)).clock ≡ suc g.book.t
   pub says : (l bound top : ℕ) (m : Marks) → k ≤ l → MarksTell c l top m → Sound bound top m → AllSettled (λ j. (c.at j).clock) time top m →
-      time < bound → g.book.t ≤ top → Says a v (raise_graph bound top m time g.book.t) (graph_of n g.page)
+      time < bound → g.book.t ≤ top → Says a v (graph_before bound top m (raise_key bound time g.book.t)) (graph_of n g.page)
 
 -- every answer but 41 is right there
 abbrev pub PagesShowRaise : Type 0
