@@ -40,7 +40,7 @@ swapped_here : (cs : List ℕ) (i old new : ℕ) → i < length cs → get_or cs
 swapped_here cs i old new l e = (let q : eqb (get_or cs i 0) old ≡ true = grind (arith, nat_tests) in rw q (get_or-set_same cs i new 0 l))
 
 -- a linked row is a row
-row_is : (s : State) (k : Kind) (r : ℕ) → Linked s k r → IsRow s.sizes k r
+pub row_is : (s : State) (k : Kind) (r : ℕ) → Linked s k r → IsRow s.sizes k r
 row_is s k r l = (own_row s.sizes k l.owner l.place r l.is).0
 
 -- the cells after a turn at place p

@@ -24,3 +24,7 @@ mod Effects
 mod Runs
 mod Told
 mod Placed
+mod Begun
+mod Histories
+mod RunSteps
+mod RunCourses

@@ -10,3 +10,4 @@ pub mod Worked
 pub mod Turns
 pub mod Told
 pub mod Placed
+pub mod Histories

@@ -2,6 +2,7 @@
 #![tactic(auto)]
 
 ghost use Rattle.walks.specs.Budgets.{TurnsFit};
+ghost use Rattle.walks.specs.Histories.{RunsGiveSteps};
 ghost use Rattle.walks.specs.Placed.{PagesShowRaise};
 ghost use Rattle.walks.specs.Steps.{StepsGiveLaws};
 ghost use Rattle.walks.specs.Surveys.{PagesStand};
@@ -9,6 +10,9 @@ ghost use Rattle.walks.specs.Told.{MarksShow};
 ghost use Rattle.walks.specs.Turns.{TurnsGo};
 ghost use Rattle.walks.specs.Walking.{WalksFind};
 ghost use Rattle.walks.specs.Worked.{Worked};
+
+use laws::runs_stamp;
+use runs::{runs_events, runs_know, runs_last, runs_step};
 
 // What walks use of the memory over time follows from what each step does to it.
 pub fn steps_give_laws()
@@ -45,6 +49,17 @@ pub fn pages_show_raise_graph()
     ensures { PagesShowRaise }
 {
     order::raises_show_visible_rows();
+}
+
+// The states of a run are such a memory.
+pub fn runs_give_steps()
+    ensures { RunsGiveSteps }
+{
+    runs_stamp();
+    runs_step();
+    runs_last();
+    runs_know();
+    runs_events();
 }
 
 // What is asked of a run can be had.

@@ -1,0 +1,120 @@
+-- The states of a run up to now, as a course: the times at which it moves, and what heads and linked rows are.
+use Rattle.std.proofs.Common.{◌≡◌, ℕ, zero, suc, ◌<◌, ◌≤◌, ◌≢◌, ◌⊎◌, min, Bool, true, false, cond, ltb, ◌&&◌, sym, refl, ap, ◌∙◌, subst, inl, inr, ⊎_elim, arith}
+use Rattle.std.proofs.lemmas.Bool.{ltb-true, lt-ltb, and_parts, cases_lt}
+use Rattle.layout.specs.declared.sizes.Sizes.{Sizes}
+use Rattle.layout.specs.declared.names.Kind.{Kind}
+use Rattle.layout.specs.declared.names.Field.{Field}
+use Rattle.layout.specs.declared.names.Head.{Head}
+use Rattle.layout.specs.declared.names.Head.TheVariants as head
+use Rattle.layout.specs.declared.names.Cell.TheVariants as cell
+use Rattle.layout.specs.Layout.{Named}
+use Rattle.layout.specs.Rows.{no_row}
+use Rattle.places.specs.Touches.{head_kind}
+use Rattle.places.specs.declared.mark.Mark.TheVariants.{Stamp}
+use Rattle.stepper.specs.Opening.{opened_state}
+use Rattle.stepper.specs.History.{Traces}
+use Rattle.laws.specs.Stamps.{StampLaws, RunsStamp}
+use Rattle.runs.specs.Runs.{Run, history_at}
+use Rattle.runs.specs.Views.{head_at, LinkedAt}
+use Rattle.runs.specs.Steps.{HeadSteps, HeadSteps.stays, HeadSteps.moves, RunsStep}
+use Rattle.runs.specs.Times.{LinkedBy, RunsLast}
+use Rattle.runs.specs.Known.{Stamped as StampedIn}
+use Rattle.walks.specs.Memory.{mark_in, head_inside, memory_of}
+use Rattle.walks.specs.Courses.{Course, Stamped}
+use Rattle.walks.specs.Steps.{Links, WasLinked}
+use Rattle.walks.specs.Histories.{run_course}
+
+-- the run's history leads from the opening to its state
+traced : (R : Run) (k : ℕ) → Traces (opened_state R.cells R.sizes) (history_at R k) (R.state k)
+unfolding history_at
+traced R zero = sym R.start
+traced R (suc k) = (R.state k, traced R k, refl, R.next k)
+
+-- a head is one of the sizes, or outside
+pub inside_or : (z : Sizes) (h : Head) → (Named z (cell.Head h) × (head_inside z h ≡ true)) ⊎ (head_inside z h ≡ false)
+inside_or z (head.Vertex i) = by_test (ltb i z.keys) refl
+  where
+    by_test : (t : Bool) → ltb i z.keys ≡ t → ((i < z.keys) × (ltb i z.keys ≡ true)) ⊎ (ltb i z.keys ≡ false)
+    by_test true e = inl (ltb-true i z.keys e, e)
+    by_test false e = inr e
+inside_or z (head.Edge i j) = by_test (ltb i z.keys && ltb j z.keys) refl
+  where
+    by_test : (t : Bool) → (ltb i z.keys && ltb j z.keys) ≡ t → (((i < z.keys) × (j < z.keys)) × ((ltb i z.keys && ltb j z.keys) ≡ true)) ⊎ ((ltb i z.keys && ltb j z.keys) ≡ false)
+    by_test true e = (let p = and_parts (ltb i z.keys) (ltb j z.keys) e in inl ((ltb-true i z.keys p.0, ltb-true j z.keys p.1), e))
+    by_test false e = inr e
+
+pub inside : (z : Sizes) (h : Head) → Named z (cell.Head h) → head_inside z h ≡ true
+inside z (head.Vertex i) n = lt-ltb i z.keys n
+inside z (head.Edge i j) n = rw (lt-ltb i z.keys n.0, lt-ltb j z.keys n.1) refl
+
+module _ (stamp : RunsStamp) (R : Run) where
+  pub stamps_at : (k : ℕ) → StampLaws (opened_state R.cells R.sizes) (history_at R k) (R.state k)
+  stamps_at k = stamp R.sizes R.cells R.room (history_at R k) (R.state k) (traced R k)
+
+  pub sizes_at : (k : ℕ) → (R.state k).sizes ≡ R.sizes
+  sizes_at k = (stamps_at k).sizes
+
+  -- a head of the sizes holds what its cell holds, a head outside no row
+  pub head_named : (k : ℕ) (h : Head) → Named R.sizes (cell.Head h) → (memory_of (R.state k)).head h ≡ head_at R k h
+  head_named k h n = ap (λ z. cond (head_inside z h) (head_at R k h) no_row) (sizes_at k) ∙ ap (λ t. cond t (head_at R k h) no_row) (inside R.sizes h n)
+
+  pub head_outside : (k : ℕ) (h : Head) → head_inside R.sizes h ≡ false → (memory_of (R.state k)).head h ≡ no_row
+  head_outside k h e = ap (λ z. cond (head_inside z h) (head_at R k h) no_row) (sizes_at k) ∙ ap (λ t. cond t (head_at R k h) no_row) e
+
+  module _ (step : RunsStep) (last : RunsLast) (now : ℕ) where
+    abbrev c : Course
+    c = run_course R now
+
+    pub at_time : (k : ℕ) → k ≤ now → k ≡ min k now
+    at_time k l = omega arith
+
+    pub head_then : (k : ℕ) (h : Head) → k ≤ now → Named R.sizes (cell.Head h) → (c.at k).head h ≡ head_at R k h
+    head_then k h l n = subst (λ m. (memory_of (R.state m)).head h ≡ head_at R k h) (at_time k l) (head_named k h n)
+
+    -- from now on nothing moves
+    pub still : (k : ℕ) → now ≤ k → min (suc k) now ≡ min k now
+    still k l = omega arith
+
+    pub before_now : (k : ℕ) → k < now → (min k now ≡ k) × (min (suc k) now ≡ suc k)
+    before_now k l = (omega arith, omega arith)
+
+    -- a link of the course is a step of the run before now, which links the row at a head of the sizes
+    pub record Comes (p : ℕ) (h : Head) (r : ℕ) : Type 0 where
+      pub early : p < now
+      pub named : Named R.sizes (cell.Head h)
+      pub by : LinkedBy R p h r
+
+    moved : (p : ℕ) (h : Head) (r : ℕ) → p < now → Named R.sizes (cell.Head h) → head_at R (suc p) h ≡ r → head_at R p h ≢ r → LinkedBy R p h r
+    moved p h r l n e m = by_step ((step R p).heads h n)
+      where
+        by_step : HeadSteps R p h (head_at R (suc p) h) → LinkedBy R p h r
+        by_step (stays q) = absurd (m (sym q ∙ e))
+        by_step (moves d q s) = subst (LinkedBy R p h) e (record { change = d; head = q; step = s })
+
+    comes : (p : ℕ) (h : Head) (r : ℕ) → 0 < r → (c.at (suc p)).head h ≡ r → (c.at p).head h ≢ r → Comes p h r
+    comes p h r o e m = ⊎_elim in_time after (cases_lt p now)
+      where
+        in_time : p < now → Comes p h r
+        in_time l = ⊎_elim
+            (λ (n : Named R.sizes (cell.Head h) × (head_inside R.sizes h ≡ true)).
+            record { early = l; named = n.0; by = moved p h r l n.0 (sym (head_then (suc p) h l n.0) ∙ e) (λ q. m (head_then p h (omega arith) n.0 ∙ q)) })
+            (λ (n : head_inside R.sizes h ≡ false). absurd (omega (arith, o, e, head_outside (min (suc p) now) h n)))
+            (inside_or R.sizes h)
+
+        after : now ≤ p → Comes p h r
+        after l = absurd (m (ap (λ k. (memory_of (R.state k)).head h) (sym (still p l)) ∙ e))
+
+    pub link_comes : (p : ℕ) (h : Head) (r : ℕ) → Links c R.sizes.keys p h r → Comes p h r
+    link_comes p h r l = comes p h r l.row l.is (l.fresh p (omega arith))
+
+    linked_by : (p : ℕ) (h : Head) (r : ℕ) → LinkedBy R p h r → LinkedAt R (suc p) (head_kind h) r
+    linked_by p h r b = subst (λ g. LinkedAt R (suc p) (head_kind g) r) b.head b.step.linked
+
+    -- what was linked is linked
+    pub linked_then : (k : ℕ) (h : Head) (r : ℕ) → WasLinked c R.sizes.keys k h r → LinkedAt R (min k now) (head_kind h) r
+    linked_then k h r w =
+        let x = link_comes w.time h r w.was in
+        ((last R).times (suc w.time) (min k now) (omega (arith, w.before, x.early))).linked (head_kind h) r (linked_by w.time h r x.by)
+
+    pub stamped_then : (k : ℕ) (g : Kind) (f : Field) (r : ℕ) → k ≤ now → StampedIn R k g f r → Stamped c k g f r
+    stamped_then k g f r l s = record { number = s.number; is = subst (λ m. mark_in (memory_of (R.state m)) g f r ≡ Stamp s.number) (at_time k l) s.is }

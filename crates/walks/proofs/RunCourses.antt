@@ -1,0 +1,144 @@
+-- The states of a run up to now are a memory as walks asks.
+use Rattle.std.proofs.Common.{◌≡◌, ℕ, suc, ◌<◌, ◌≤◌, ◌≢◌, ◌⊎◌, min, true, false, sym, refl, ap, ◌∙◌, subst, subst₂, inl, inr, ⊎_elim, arith}
+use Rattle.std.proofs.lemmas.Bool.{ne_eqb, cases_lt}
+use Rattle.layout.specs.declared.names.Kind.{Kind}
+use Rattle.layout.specs.declared.names.Field.{Field}
+use Rattle.layout.specs.declared.names.Head.{Head}
+use Rattle.layout.specs.declared.names.Head.TheVariants as head
+use Rattle.layout.specs.declared.names.Cell.TheVariants as cell
+use Rattle.layout.specs.Layout.{Named}
+use Rattle.layout.specs.Rows.{no_row}
+use Rattle.places.specs.Marks.{mark_of, pending}
+use Rattle.places.specs.Touches.{head_kind, change_head, settled_field}
+use Rattle.places.specs.declared.mark.Mark.{Mark}
+use Rattle.places.specs.declared.mark.Mark.TheVariants.{NotEnded, Pending, Stamp}
+use Rattle.places.specs.declared.place.Purpose.{Purpose}
+use Rattle.places.specs.declared.place.Purpose.TheVariants as purpose
+use Rattle.places.specs.declared.place.Stage.TheVariants as stage
+use Rattle.places.specs.declared.place.Place.TheVariants as place
+use Rattle.runs.specs.Runs.{Run}
+use Rattle.runs.specs.Views.{clock_at, head_at, mark_at, LinkedAt}
+use Rattle.runs.specs.Steps.{TurnAt, HeadSteps, HeadSteps.stays as heads_stay, HeadSteps.moves as heads_move, MarkSteps, MarkSteps.same as marks_stay, MarkSteps.settled as marks_settled, MarkSteps.ended as marks_ended, RunsStep}
+use Rattle.runs.specs.Times.{RunsLast}
+use Rattle.runs.specs.Known.{FromClock, Known}
+use Rattle.runs.specs.Purposes.{purpose_kind, purpose_field, purpose_row}
+use Rattle.runs.specs.Reasons.{WorkerKnows, WorkerKnows.free, WorkerKnows.busy, RunsKnow}
+use Rattle.runs.specs.Events.{RunsEvents}
+use Rattle.laws.specs.Stamps.{RunsStamp}
+use Rattle.walks.specs.Memory.{head_inside, mark_in, memory_of}
+use Rattle.walks.specs.Courses.{Course}
+use Rattle.walks.specs.Steps.{Links, WasLinked, MarkMoves, stays, ends, stamps, Steps}
+use Rattle.walks.specs.Histories.{run_course, RunsGiveSteps}
+use Rattle.walks.proofs.Histories.{inside_or, stamps_at, head_outside, at_time, head_then, still, link_comes, linked_then}
+use Rattle.walks.proofs.RunSteps.{links_of}
+
+-- the field that a purpose settles, by its names
+settled_is : (p : Purpose) → settled_field p ≡ cell.Stamp (purpose_kind p) (purpose_field p) (purpose_row p)
+settled_is (purpose.Look f l r) = refl
+settled_is (purpose.Own f c r) = refl
+settled_is (purpose.LostDel c r) = refl
+settled_is (purpose.WonIns i r) = refl
+settled_is (purpose.BindAgain o b) = refl
+settled_is (purpose.Again s o b f) = refl
+settled_is (purpose.Compare s b f e x) = refl
+settled_is (purpose.Walk f k r) = refl
+
+same_names : {g h : Kind} {f e : Field} {r q : ℕ} → cell.Stamp g f r ≡ cell.Stamp h e q → (g ≡ h) × (f ≡ e) × (r ≡ q)
+same_names x = (cc, cc, cc)
+
+mark_stamp : (n : ℕ) → ¬ (n ≡ 0) × ¬ (n ≡ pending) → mark_of n ≡ Stamp n
+mark_stamp n a = rw (ne_eqb n 0 a.0, ne_eqb n pending a.1) refl
+
+module _ (stamp : RunsStamp) (step : RunsStep) (last : RunsLast) (know : RunsKnow) (events : RunsEvents) (R : Run) (now : ℕ) where
+  abbrev c : Course
+  c = run_course R now
+
+  abbrev n : ℕ
+  n = R.sizes.keys
+
+  -- the number in hand is what the clock was once the field was pending
+  from_clock : (k w x : ℕ) (p : Purpose) (g : Kind) (f : Field) (r : ℕ) → TurnAt R k w (place.Settle (stage.Swap x) p) → settled_field p ≡ cell.Stamp g f r → FromClock R k g f r x
+  from_clock k w x p g f r t e = by_worker ((know R).workers k w t.within)
+    where
+      by_names : FromClock R k (purpose_kind p) (purpose_field p) (purpose_row p) x → FromClock R k g f r x
+      by_names h =
+          let same = same_names (sym (settled_is p) ∙ e) in
+          subst (λ y. FromClock R k g f y x) same.2 (subst (λ y. FromClock R k g y (purpose_row p) x) same.1 (subst (λ y. FromClock R k y (purpose_field p) (purpose_row p) x) same.0 h))
+
+      by_worker : WorkerKnows R k w → FromClock R k g f r x
+      by_worker (free u i) = absurd (let y : place.Settle (stage.Swap x) p ≡ place.Idle = sym t.place ∙ i in cc)
+      by_worker (busy b y u h i o) = by_names ((subst (Known R k b) t.place o).0.0)
+
+  -- a row that is linked at time a was linked before
+  linked_before : (k a : ℕ) (h : Head) (r : ℕ) → WasLinked c n k h r → LinkedAt R a (head_kind h) r → WasLinked c n a h r
+  linked_before k a h r w l = record { time = w.time; before = ⊎_elim (λ (u : w.time < a). u) (λ (u : a ≤ w.time). absurd (late u)) (cases_lt w.time a); was = w.was }
+    where
+      late : a ≤ w.time → ⊥
+      late u =
+          let b = (link_comes stamp R step last now w.time h r w.was).by in
+          b.step.fresh (subst (λ g. LinkedAt R w.time (head_kind g) r) (sym b.head) (((last R).times a w.time u).linked (head_kind h) r l))
+
+  module _ (k : ℕ) (h : Head) (f : Field) (r : ℕ) (w : WasLinked c n k h r) (l : k < now) where
+    abbrev Moves : Mark → Mark → Type 0
+    Moves x y = MarkMoves c n k h f r x y
+
+    settles : (x : ℕ) → FromClock R k (head_kind h) f r x → mark_at R k (head_kind h) f r ≡ Pending → mark_at R (suc k) (head_kind h) f r ≡ Stamp x → Moves (mark_at R k (head_kind h) f r) (mark_at R (suc k) (head_kind h) f r)
+    settles x o p q =
+        let a = o.time in
+        let u = o.held.1 in
+        let later = (last R).times u.time a (omega (arith, u.before)) in
+        let linked = later.linked (head_kind h) r u.held.0 in
+        let begun = later.begun (head_kind h) f r u.held.0 (λ e. no_pending (sym u.held.1 ∙ e)) in
+        stamps x a p q (omega (arith, o.before)) (linked_before k a h r w linked)
+        (subst (λ m. mark_in (memory_of (R.state m)) (head_kind h) f r ≢ NotEnded) (at_time stamp R step last now a (omega (arith, o.before))) begun)
+        (subst (λ m. clock_at R m ≡ x) (at_time stamp R step last now a (omega (arith, o.before))) o.held.0)
+      where
+        no_pending : Pending ≡ NotEnded → ⊥
+        no_pending e = absurd cc
+
+    by_step : MarkSteps R k (head_kind h) f r (mark_at R k (head_kind h) f r) (mark_at R (suc k) (head_kind h) f r) → Moves (mark_at R k (head_kind h) f r) (mark_at R (suc k) (head_kind h) f r)
+    by_step (marks_stay e) = stays e
+    by_step (marks_settled v x p t e i q y) = settles x (from_clock k v x p (head_kind h) f r t e) q y
+    by_step (marks_ended v d t e g x y) = ends x y
+
+    mark_moves : Moves (mark_in (c.at k) (head_kind h) f r) (mark_in (c.at (suc k)) (head_kind h) f r)
+    mark_moves =
+        let linked = subst (λ m. LinkedAt R m (head_kind h) r) (sym (at_time stamp R step last now k (omega arith))) (linked_then stamp R step last now k h r w) in
+        subst₂ (λ i j. Moves (mark_in (memory_of (R.state i)) (head_kind h) f r) (mark_in (memory_of (R.state j)) (head_kind h) f r))
+        (at_time stamp R step last now k (omega arith)) (at_time stamp R step last now (suc k) l) (by_step ((step R k).marks (head_kind h) f r linked))
+
+  marks : (k : ℕ) (h : Head) (f : Field) (r : ℕ) → WasLinked c n k h r → MarkMoves c n k h f r (mark_in (c.at k) (head_kind h) f r) (mark_in (c.at (suc k)) (head_kind h) f r)
+  marks k h f r w = ⊎_elim (λ (l : k < now). mark_moves k h f r w l) (λ (l : now ≤ k). stays (ap (λ m. mark_in (memory_of (R.state m)) (head_kind h) f r) (still stamp R step last now k l))) (cases_lt k now)
+
+  heads : (k : ℕ) (h : Head) → ((c.at (suc k)).head h ≡ (c.at k).head h) ⊎ Links c n k h ((c.at (suc k)).head h)
+  heads k h = ⊎_elim early (λ (l : now ≤ k). inl (ap (λ m. (memory_of (R.state m)).head h) (still stamp R step last now k l))) (cases_lt k now)
+    where
+      by_head : k < now → Named R.sizes (cell.Head h) → HeadSteps R k h (head_at R (suc k) h) → ((c.at (suc k)).head h ≡ (c.at k).head h) ⊎ Links c n k h ((c.at (suc k)).head h)
+      by_head l m (heads_stay e) = inl (head_then stamp R step last now (suc k) h l m ∙ e ∙ sym (head_then stamp R step last now k h (omega arith) m))
+      by_head l m (heads_move d q s) =
+          let at_head : Named R.sizes (cell.Head (change_head d)) = subst (λ g. Named R.sizes (cell.Head g)) (sym q) m in
+          inr (subst₂ (Links c n k) q (sym (head_then stamp R step last now (suc k) h l m)) (links_of stamp step last know events R now k l d _ s at_head))
+
+      early : k < now → ((c.at (suc k)).head h ≡ (c.at k).head h) ⊎ Links c n k h ((c.at (suc k)).head h)
+      early l = ⊎_elim (λ (m : Named R.sizes (cell.Head h) × (head_inside R.sizes h ≡ true)). by_head l m.0 ((step R k).heads h m.0))
+          (λ (m : head_inside R.sizes h ≡ false). inl (head_outside stamp R (min (suc k) now) h m ∙ sym (head_outside stamp R (min k now) h m))) (inside_or R.sizes h)
+
+  empty : (h : Head) → (c.at 0).head h ≡ no_row
+  empty h = ⊎_elim (λ (m : Named R.sizes (cell.Head h) × (head_inside R.sizes h ≡ true)). head_then stamp R step last now 0 h (omega arith) m.0 ∙ (last R).no_head h m.0)
+      (λ (m : head_inside R.sizes h ≡ false). head_outside stamp R (min 0 now) h m) (inside_or R.sizes h)
+
+  run_steps : Steps c n
+  run_steps = record {
+    clock_rises = λ k. ((last R).times (min k now) (min (suc k) now) (omega arith)).clock;
+    clock_stamps = λ k. mark_stamp (clock_at R (min k now)) ((stamps_at stamp R (min k now)).apart (clock_at R (min k now)) (stamps_at stamp R (min k now)).clock);
+    empty = empty;
+    heads = heads;
+    marks = marks;
+    older = λ k h r w. sym (((last R).times (min k now) (min now now) (omega arith)).older (head_kind h) r (linked_then stamp R step last now k h r w));
+    source = λ k i j r w. sym (((last R).times (min k now) (min now now) (omega arith)).source r (linked_then stamp R step last now k (head.Edge i j) r w));
+    target = λ k i j r w. sym (((last R).times (min k now) (min now now) (omega arith)).target r (linked_then stamp R step last now k (head.Edge i j) r w));
+    weight = λ k i j r w. sym (((last R).times (min k now) (min now now) (omega arith)).weight r (linked_then stamp R step last now k (head.Edge i j) r w));
+  }
+
+pub runs_give_steps : RunsStamp → RunsStep → RunsLast → RunsKnow → RunsEvents → RunsGiveSteps
+runs_give_steps stamp step last know events R now = run_steps stamp step last know events R now
