@@ -28,3 +28,5 @@ mod Begun
 mod Histories
 mod RunSteps
 mod RunCourses
+mod Growth
+mod RunRows

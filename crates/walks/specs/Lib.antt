@@ -11,3 +11,4 @@ pub mod Turns
 pub mod Told
 pub mod Placed
 pub mod Histories
+pub mod Growth

@@ -2,6 +2,7 @@
 #![tactic(auto)]
 
 ghost use Rattle.walks.specs.Budgets.{TurnsFit};
+ghost use Rattle.walks.specs.Growth.{RunsGrowRows};
 ghost use Rattle.walks.specs.Histories.{RunsGiveSteps};
 ghost use Rattle.walks.specs.Placed.{PagesShowRaise};
 ghost use Rattle.walks.specs.Steps.{StepsGiveLaws};
@@ -60,6 +61,15 @@ pub fn runs_give_steps()
     runs_last();
     runs_know();
     runs_events();
+}
+
+// The rows that its workers have linked grow by one where a head moves.
+pub fn runs_grow_rows()
+    ensures { RunsGrowRows }
+{
+    runs_stamp();
+    runs_step();
+    runs_last();
 }
 
 // What is asked of a run can be had.
