@@ -25,7 +25,7 @@ use Rattle.walks.specs.Steps.{Links, WasLinked}
 use Rattle.walks.specs.Histories.{run_course}
 
 -- the run's history leads from the opening to its state
-traced : (R : Run) (k : ℕ) → Traces (opened_state R.cells R.sizes) (history_at R k) (R.state k)
+pub traced : (R : Run) (k : ℕ) → Traces (opened_state R.cells R.sizes) (history_at R k) (R.state k)
 unfolding history_at
 traced R zero = sym R.start
 traced R (suc k) = (R.state k, traced R k, refl, R.next k)
@@ -91,7 +91,7 @@ module _ (stamp : RunsStamp) (R : Run) where
         by_step (stays q) = absurd (m (sym q ∙ e))
         by_step (moves d q s) = subst (LinkedBy R p h) e (record { change = d; head = q; step = s })
 
-    comes : (p : ℕ) (h : Head) (r : ℕ) → 0 < r → (c.at (suc p)).head h ≡ r → (c.at p).head h ≢ r → Comes p h r
+    pub comes : (p : ℕ) (h : Head) (r : ℕ) → 0 < r → (c.at (suc p)).head h ≡ r → (c.at p).head h ≢ r → Comes p h r
     comes p h r o e m = ⊎_elim in_time after (cases_lt p now)
       where
         in_time : p < now → Comes p h r
@@ -107,7 +107,7 @@ module _ (stamp : RunsStamp) (R : Run) where
     pub link_comes : (p : ℕ) (h : Head) (r : ℕ) → Links c R.sizes.keys p h r → Comes p h r
     link_comes p h r l = comes p h r l.row l.is (l.fresh p (omega arith))
 
-    linked_by : (p : ℕ) (h : Head) (r : ℕ) → LinkedBy R p h r → LinkedAt R (suc p) (head_kind h) r
+    pub linked_by : (p : ℕ) (h : Head) (r : ℕ) → LinkedBy R p h r → LinkedAt R (suc p) (head_kind h) r
     linked_by p h r b = subst (λ g. LinkedAt R (suc p) (head_kind g) r) b.head b.step.linked
 
     -- what was linked is linked

@@ -30,3 +30,5 @@ mod RunSteps
 mod RunCourses
 mod Growth
 mod RunRows
+mod Decides
+mod RunMarks

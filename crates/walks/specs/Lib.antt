@@ -12,3 +12,4 @@ pub mod Told
 pub mod Placed
 pub mod Histories
 pub mod Growth
+pub mod Marking

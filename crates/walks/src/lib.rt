@@ -4,6 +4,7 @@
 ghost use Rattle.walks.specs.Budgets.{TurnsFit};
 ghost use Rattle.walks.specs.Growth.{RunsGrowRows};
 ghost use Rattle.walks.specs.Histories.{RunsGiveSteps};
+ghost use Rattle.walks.specs.Marking.{RunsTellMarks};
 ghost use Rattle.walks.specs.Placed.{PagesShowRaise};
 ghost use Rattle.walks.specs.Steps.{StepsGiveLaws};
 ghost use Rattle.walks.specs.Surveys.{PagesStand};
@@ -12,7 +13,7 @@ ghost use Rattle.walks.specs.Turns.{TurnsGo};
 ghost use Rattle.walks.specs.Walking.{WalksFind};
 ghost use Rattle.walks.specs.Worked.{Worked};
 
-use laws::runs_stamp;
+use laws::{runs_sound, runs_stamp};
 use runs::{runs_events, runs_know, runs_last, runs_step};
 
 // What walks use of the memory over time follows from what each step does to it.
@@ -70,6 +71,18 @@ pub fn runs_grow_rows()
     runs_stamp();
     runs_step();
     runs_last();
+}
+
+// The marks that a run gives to order are those of its states.
+pub fn runs_tell_marks()
+    ensures { RunsTellMarks }
+{
+    runs_sound();
+    runs_stamp();
+    runs_step();
+    runs_last();
+    runs_know();
+    runs_events();
 }
 
 // What is asked of a run can be had.
