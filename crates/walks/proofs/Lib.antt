@@ -32,3 +32,5 @@ mod Growth
 mod RunRows
 mod Decides
 mod RunMarks
+mod Written
+mod PageTurns

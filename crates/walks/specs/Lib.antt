@@ -13,3 +13,4 @@ pub mod Placed
 pub mod Histories
 pub mod Growth
 pub mod Marking
+pub mod Written

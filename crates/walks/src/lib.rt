@@ -12,6 +12,7 @@ ghost use Rattle.walks.specs.Told.{MarksShow};
 ghost use Rattle.walks.specs.Turns.{TurnsGo};
 ghost use Rattle.walks.specs.Walking.{WalksFind};
 ghost use Rattle.walks.specs.Worked.{Worked};
+ghost use Rattle.walks.specs.Written.{TurnsWrite};
 
 use laws::{runs_sound, runs_stamp};
 use runs::{runs_events, runs_know, runs_last, runs_step};
@@ -39,6 +40,11 @@ pub fn turns_stay_within_limit()
 // A turn of a worker of a run answers, moves the worker, writes into its page and changes the memory as a turn of a worker that makes a page.
 pub fn turns_go()
     ensures { TurnsGo }
+{}
+
+// After such a turn the page of the worker is what was written into it.
+pub fn turns_write()
+    ensures { TurnsWrite }
 {}
 
 // A graph of the rows that are visible by the marks of a run is one of the rows that are visible by its memory.
