@@ -34,3 +34,4 @@ mod Decides
 mod RunMarks
 mod Written
 mod PageTurns
+mod RunSurveys

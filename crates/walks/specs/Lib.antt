@@ -14,3 +14,4 @@ pub mod Histories
 pub mod Growth
 pub mod Marking
 pub mod Written
+pub mod Calls

@@ -2,6 +2,7 @@
 #![tactic(auto)]
 
 ghost use Rattle.walks.specs.Budgets.{TurnsFit};
+ghost use Rattle.walks.specs.Calls.{RunsSurvey};
 ghost use Rattle.walks.specs.Growth.{RunsGrowRows};
 ghost use Rattle.walks.specs.Histories.{RunsGiveSteps};
 ghost use Rattle.walks.specs.Marking.{RunsTellMarks};
@@ -14,7 +15,7 @@ ghost use Rattle.walks.specs.Walking.{WalksFind};
 ghost use Rattle.walks.specs.Worked.{Worked};
 ghost use Rattle.walks.specs.Written.{TurnsWrite};
 
-use laws::{runs_sound, runs_stamp};
+use laws::{runs_keep_laws, runs_sound, runs_stamp};
 use runs::{runs_events, runs_know, runs_last, runs_step};
 
 // What walks use of the memory over time follows from what each step does to it.
@@ -89,6 +90,16 @@ pub fn runs_tell_marks()
     runs_last();
     runs_know();
     runs_events();
+}
+
+// A worker that has a snapshot or reach open makes a page.
+pub fn runs_survey()
+    ensures { RunsSurvey }
+{
+    runs_sound();
+    runs_keep_laws();
+    runs_stamp();
+    runs_know();
 }
 
 // What is asked of a run can be had.
