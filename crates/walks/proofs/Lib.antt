@@ -35,3 +35,4 @@ mod RunMarks
 mod Written
 mod PageTurns
 mod RunSurveys
+mod RunAnswers

@@ -59,7 +59,7 @@ change_none (change.Vertex i) o v e = absurd cc
 change_none (change.Edge b) o v e = absurd cc
 
 -- a place of a snapshot or reach
-in_survey : (p : Place) (v : Survey) → InCall p (call.Survey v) → InSurvey p
+pub in_survey : (p : Place) (v : Survey) → InCall p (call.Survey v) → InSurvey p
 in_survey (place.Raise x) v e = at_raise x
 in_survey (place.WalkHead k) v e = at_head k
 in_survey (place.WalkOlder k r) v e = at_older k r
@@ -175,7 +175,7 @@ module _ (sound : RunsSound) (keep : RunsKeepLaws) (stamp : RunsStamp) (know : R
   open_then k l u = open_from (till - k) k (omega arith) l
 
   -- so the place is one of the call
-  in_call_then : (k : ℕ) → began < k → k ≤ till → InCall (place_at R k w) (call.Survey v)
+  pub in_call_then : (k : ℕ) → began < k → k ≤ till → InCall (place_at R k w) (call.Survey v)
   in_call_then k l u = by_worker ((know R).workers k w inside)
     where
       by_worker : WorkerKnows R k w → InCall (place_at R k w) (call.Survey v)
@@ -187,10 +187,10 @@ module _ (sound : RunsSound) (keep : RunsKeepLaws) (stamp : RunsStamp) (know : R
           let c_is : c ≡ call.Survey v = same_call c (call.Survey v) (sym h.call ∙ ap (begun_as (R.state began)) same ∙ by.call) in
           subst (InCall (place_at R k w)) c_is i
 
-  sound_at : (k : ℕ) → Sound (R.state k)
+  pub sound_at : (k : ℕ) → Sound (R.state k)
   sound_at k = sound R.sizes R.cells R.room (history_at R k) (R.state k) (traced R k)
 
-  within : (k : ℕ) → w < (R.state k).sizes.workers
+  pub within : (k : ℕ) → w < (R.state k).sizes.workers
   within k = subst (λ (z : Sizes). w < z.workers) (sym (sizes_at stamp R k)) inside
 
   -- the begin

@@ -15,3 +15,4 @@ pub mod Growth
 pub mod Marking
 pub mod Written
 pub mod Calls
+pub mod Answered

@@ -1,6 +1,7 @@
 // What the walks of a snapshot or reach find, and what its page shows.
 #![tactic(auto)]
 
+ghost use Rattle.walks.specs.Answered.{RunsPagesRight};
 ghost use Rattle.walks.specs.Budgets.{TurnsFit};
 ghost use Rattle.walks.specs.Calls.{RunsSurvey};
 ghost use Rattle.walks.specs.Growth.{RunsGrowRows};
@@ -100,6 +101,20 @@ pub fn runs_survey()
     runs_keep_laws();
     runs_stamp();
     runs_know();
+}
+
+// So every answer but 41 of a snapshot or reach of a run is right of the graph just before the key of its raise.
+pub fn runs_pages_right()
+    ensures { RunsPagesRight }
+{
+    order::raises_show_visible_rows();
+    runs_sound();
+    runs_keep_laws();
+    runs_stamp();
+    runs_step();
+    runs_last();
+    runs_know();
+    runs_events();
 }
 
 // What is asked of a run can be had.
