@@ -17,9 +17,6 @@ standing_of h g order b j e =
     let s = get_or (standings h g order) j (record { call = b; before = g }) in
     (s.before, ap (λ c. record { call = c; before = s.before }) (call_at h g order j b g ∙ e))
 
-belongs_first : Belongs early_answer 1
-belongs_first = record { began = refl; done = inl refl }
-
 belongs_second : Belongs early_answer 2
 belongs_second = record { began = refl; done = inl refl }
 

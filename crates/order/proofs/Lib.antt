@@ -16,5 +16,3 @@ pub mod Seen
 mod TwoCalls
 mod EarlyAnswer
 pub mod Fitting
-pub mod Times
-pub mod Pages

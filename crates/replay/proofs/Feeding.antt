@@ -2,11 +2,11 @@
 use Rattle.std.proofs.Common.{◌≡◌, ℕ, ◌+◌, ◌<◌, ◌≤◌, ◌==◌, true, false, List, [], ◌∷◌, ◌++◌, length, get_or, take, drop, Some, None, Option, is_some, refl, sym, ap, ◌∙◌, arith}
 use Rattle.std.specs.List.{position, position_or_len}
 use Rattle.std.proofs.lemmas.Bool.Decides.{nat_tests}
-use Rattle.std.proofs.lemmas.List.{length-drop, length-take-le, take-append-drop, drop_more}
+use Rattle.std.proofs.lemmas.List.{length-take-le, take-append-drop, drop_more}
 use Rattle.std.proofs.lemmas.List.Recursion.{is_position_or_len}
 use Rattle.frames.specs.Frames.{frame_in}
 use Rattle.frames.specs.Hex.{digit_of, byte_of, joined, bytes_of}
-use Rattle.replay.specs.Texts.{feed_at, behind_line}
+use Rattle.replay.specs.Texts.{feed_at}
 
 feed_is : (text : List ℕ) → feed_at text ≡ position_or_len (λ b. b == 10) text
 feed_is text = is_position_or_len feed_at (λ b. b == 10) refl (λ x xs. grind (arith, nat_tests)) text
@@ -16,9 +16,6 @@ feed_found text n e = grind (arith, nat_tests, feed_is text)
 
 pub feed_none : (text : List ℕ) → position (λ b. b == 10) text ≡ None → length text ≤ feed_at text
 feed_none text e = grind (arith, nat_tests, feed_is text)
-
-pub behind_shorter : (text : List ℕ) → 1 ≤ length text → length (behind_line text) < length text
-behind_shorter text h = omega (arith, length-drop (feed_at text + 1) text)
 
 -- two digits and the bytes behind them, where they make bytes
 record AllThere (h l : Option ℕ) (rest : Option (List ℕ)) : Type 0 where

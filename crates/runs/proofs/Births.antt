@@ -30,9 +30,6 @@ use Rattle.runs.proofs.Events.{stamp_kept, linked_later, linked_from, ended_from
 pub stamp_one : {m n : ℕ} → Stamp m ≡ Stamp n → m ≡ n
 stamp_one e = cc
 
-vertex_one : {i j : ℕ} → change.Vertex i ≡ change.Vertex j → i ≡ j
-vertex_one e = cc
-
 pub stamped_or : (m : View) → ((n : ℕ) × (m ≡ Stamp n)) ⊎ ¬ ((n : ℕ) × (m ≡ Stamp n))
 stamped_or NotEnded = inr (λ h. let e : NotEnded ≡ Stamp h.0 = h.1 in absurd cc)
 stamped_or Pending = inr (λ h. let e : Pending ≡ Stamp h.0 = h.1 in absurd cc)

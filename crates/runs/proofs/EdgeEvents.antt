@@ -15,7 +15,7 @@ use Rattle.places.specs.Touches.{head_kind, change_head, change_kind}
 use Rattle.laws.specs.Sound.{RunsSound, RunsKeepLaws}
 use Rattle.laws.specs.Stamps.{RunsStamp}
 use Rattle.runs.specs.Runs.{Run}
-use Rattle.runs.specs.Views.{number_at, head_at, LinkedAt}
+use Rattle.runs.specs.Views.{head_at, LinkedAt}
 use Rattle.runs.specs.Steps.{HeadSteps, HeadSteps.stays, HeadSteps.moves, RunsStep}
 use Rattle.runs.specs.Times.{Past, LinkedBy, RunsLast}
 use Rattle.runs.specs.Known.{Stamped, Dead, Living, Has, BoundTo, Over, KnownLink, LinkEvent}
@@ -31,9 +31,6 @@ module _ (sound : RunsSound) (keep : RunsKeepLaws) (stamp : RunsStamp) (step : R
   edge_bound {p} {b} {e} {d} ev k l =
       let laws = (last R).times (suc p) k l in
       (laws.source e ev.step.linked ∙ ev.step.bound.0, laws.target e ev.step.linked ∙ ev.step.bound.1)
-
-  pub edge_weight : {p b e : ℕ} {d : Bound} → LinkEvent R p b (change.Edge d) e → (k : ℕ) → p < k → number_at R k (cell.Weight e) ≡ d.pair.weight
-  edge_weight {p} {b} {e} {d} ev k l = ((last R).times (suc p) k l).weight e ev.step.linked ∙ ev.step.bound.2
 
   -- the rows that an edge row is bound to were alive before its link, after the read of the head that it was linked over
   pub record Binds (p : ℕ) (d : Bound) : Type 0 where

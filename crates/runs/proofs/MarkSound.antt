@@ -12,7 +12,7 @@ use Rattle.places.specs.declared.place.Place.TheVariants as place
 use Rattle.places.specs.Touches.{change_head, change_kind}
 use Rattle.laws.specs.Sound.{RunsSound, RunsKeepLaws}
 use Rattle.laws.specs.Stamps.{RunsStamp}
-use Rattle.order.specs.Marks.{Mark, Earlier, Marks, Sound}
+use Rattle.order.specs.Marks.{Mark, Earlier, Sound}
 use Rattle.runs.specs.Runs.{Run}
 use Rattle.runs.specs.Views.{number_at, clock_at, head_at, mark_at, LinkedAt}
 use Rattle.runs.specs.Steps.{RunsStep}
@@ -105,9 +105,6 @@ module _ (sound : RunsSound) (keep : RunsKeepLaws) (stamps : RunsStamp) (step : 
       let z : c ≡ d = end_change sound keep stamps step last know R t.1 in
       let w : Edge ≡ Vertex = sym k ∙ ap change_kind z ∙ l in
       absurd cc
-
-  marks_of : Marks
-  marks_of = marks sound keep stamps step last know events R N
 
   vertices_apart : (r s : ℕ) → key_of_row sound keep stamps step last know events R N r ≡ key_of_row sound keep stamps step last know events R N s → r ≢ s → Earlier (del_at Vertex r) (ins_at Vertex s) ⊎ Earlier (del_at Vertex s) (ins_at Vertex r)
   vertices_apart r s q n = apart_by sound keep stamps step last know events R N Vertex r s n (vertex_older sound keep stamps step last know events R N r s q) (vertex_older sound keep stamps step last know events R N s r (sym q))

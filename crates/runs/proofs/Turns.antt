@@ -23,7 +23,6 @@ use Rattle.places.specs.Private.{link_kind}
 use Rattle.places.specs.Rules.{lost_link}
 use Rattle.places.specs.Touches.{change_head, change_kind, link_touch, touch_of}
 use Rattle.places.specs.Nexts.{link_done as next_link, next_of}
-use Rattle.stepper.specs.declared.worker.Worker.{Worker}
 use Rattle.stepper.specs.States.{State}
 use Rattle.stepper.specs.Effects.{link_done, linked_cells, got_of, cells_after, entered}
 use Rattle.stepper.specs.Turns.{worker_at, spare_for, hand_of, hand_at, touch_at, next_at, followed_at, turned}
@@ -40,9 +39,6 @@ change_named s (change.Edge b) f = f.keys
 
 -- what follows at a place, what is touched there, and the cells then
 module _ (s : State) (w : ℕ) where
-  abbrev pub own_worker : Worker
-  own_worker = worker_at s w
-
   abbrev pub touch_from : Place → Touch
   touch_from p = touch_of p (spare_for s.sizes w (worker_at s w) (link_kind p))
 

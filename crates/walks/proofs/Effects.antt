@@ -17,7 +17,7 @@ use Rattle.stepper.specs.States.{State}
 use Rattle.stepper.specs.Turns.{worker_at, hand_of, turned}
 use Rattle.stepper.specs.Workers.{followed}
 use Rattle.stepper.specs.Effects.{got_of, cells_after, zeroed, entered}
-use Rattle.cells.specs.Cells.{swapped, raised}
+use Rattle.cells.specs.Cells.{swapped}
 use Rattle.laws.specs.Fits.{Linked, FitPlace, Fit}
 use Rattle.walks.specs.Memory.{Memory, memory_of}
 use Rattle.walks.specs.Walking.{Done}
@@ -32,9 +32,6 @@ zeroed_before cs i (suc n) j l = get_or-set_other (zeroed cs i n) (i + n) j 0 0 
 -- the pages lie after the clock
 page_after_clock : (z : Sizes) (w : ℕ) → 0 < page_start z w
 page_after_clock z w = omega arith
-
-raised_clock : (cs : List ℕ) (top : ℕ) → 0 < length cs → get_or cs 0 0 < top → get_or (raised cs 0 top) 0 0 ≡ suc (get_or cs 0 0)
-raised_clock cs top l u = rw (lt-ltb (get_or cs 0 0) top u) (get_or-set_same cs 0 (get_or cs 0 0 + 1) 0 l ∙ omega arith)
 
 swapped_here : (cs : List ℕ) (i old new : ℕ) → i < length cs → get_or cs i 0 ≡ old → get_or (swapped cs i old new) i 0 ≡ new
 swapped_here cs i old new l e = (let q : eqb (get_or cs i 0) old ≡ true = grind (arith, nat_tests) in rw q (get_or-set_same cs i new 0 l))

@@ -75,9 +75,6 @@ module _ (stamp : RunsStamp) (R : Run) where
     pub still : (k : ℕ) → now ≤ k → min (suc k) now ≡ min k now
     still k l = omega arith
 
-    pub before_now : (k : ℕ) → k < now → (min k now ≡ k) × (min (suc k) now ≡ suc k)
-    before_now k l = (omega arith, omega arith)
-
     -- a link of the course is a step of the run before now, which links the row at a head of the sizes
     pub record Comes (p : ℕ) (h : Head) (r : ℕ) : Type 0 where
       pub early : p < now
