@@ -1,5 +1,5 @@
 -- A begin keeps what every run keeps.
-use Rattle.std.proofs.Common.{rules, ◌≡◌, ℕ, ◌<◌, Bool, true, false, cond, ltb, Ok, Err, Result, refl, subst, arith}
+use Rattle.std.proofs.Common.{rules, ◌≡◌, ℕ, ◌<◌, Bool, true, false, cond, ltb, Ok, Err, Result, sym, refl, subst, arith}
 use Rattle.std.proofs.lemmas.List.{length-set}
 use Rattle.std.proofs.lemmas.Bool.{ltb-true, and_parts}
 use Rattle.codes.specs.declared.refusal.Refusal.{Refusal}
@@ -17,7 +17,7 @@ use Rattle.stepper.specs.States.{State}
 use Rattle.stepper.specs.Turns.{worker_at}
 use Rattle.stepper.specs.Workers.{nobody, linked_of}
 use Rattle.stepper.specs.Requests.{is_idle, page_free, begun_as, begun, state_begun}
-use Rattle.laws.specs.Fits.{Linked, FitPlace}
+use Rattle.laws.specs.Fits.{Counted, FitPlace}
 use Rattle.laws.specs.Sound.{Sound}
 use Rattle.laws.proofs.Puts.{set_each}
 use Rattle.laws.proofs.Grows.{Later, row_later, place_later}
@@ -71,17 +71,18 @@ module _ (s : State) (b : Begin) where
     count_same v k = begun_each (λ u r. linked_of r k ≡ linked_of (worker_at s u) k) refl (λ u. refl) v
 
     later_begun : Later s t
-    later_begun = record { sizes = refl; linked = λ v k. omega (arith, count_same v k); some = λ h m p. p }
+    later_begun = record { sizes = refl; linked = λ k r l. l; some = λ h m p. p }
 
-    pub was : (k : Kind) (r : ℕ) → Linked t k r → Linked s k r
-    was k r l = record { owner = l.owner; place = l.place; before = subst (λ m. l.place < m) (count_same l.owner k) l.before; is = l.is }
+    still_counted : (k : Kind) (r : ℕ) → Counted s k r → Counted t k r
+    still_counted k r l = record { owner = l.owner; place = l.place; before = subst (λ m. l.place < m) (sym (count_same l.owner k)) l.before; is = l.is }
 
     pub begin_sound : Sound t
     begin_sound = record {
       cells = z.cells;
       table = simp length-set z.table;
       heads = λ h m. row_later s t later_begun _ _ (z.heads h m);
-      olders = λ k r l. row_later s t later_begun k _ (z.olders k r (was k r l));
+      counted = λ k r l. still_counted k r (z.counted k r l);
+      olders = λ k r l. row_later s t later_begun k _ (z.olders k r l);
       places = begun_each (λ v u. v < s.sizes.workers → FitPlace t u.place) (λ _. place_later s t later_begun (place_first c) fits.1) (λ v l. place_later s t later_begun (worker_at s v).place (z.places v l));
       queues = λ v i l. begun_each (λ v u. v < s.sizes.workers → QueueFits s.sizes.keys u.book) (λ l i. z.queues w i l) (λ v l i. z.queues v i l) v l i;
     }

@@ -1,5 +1,5 @@
 -- A row that is filled for a link: which cells change, and what they then hold.
-use Rattle.std.proofs.Common.{rules, ◌≡◌, ℕ, List, sym, refl, subst, arith}
+use Rattle.std.proofs.Common.{rules, ◌≡◌, ℕ, List, sym, refl, subst, subst₂, arith}
 use Rattle.std.proofs.lemmas.List.{get_or-set_same}
 use Rattle.layout.specs.declared.sizes.Sizes.{Sizes}
 use Rattle.layout.specs.declared.names.Kind.{Kind}
@@ -17,7 +17,7 @@ use Rattle.places.specs.Marks.{pending}
 use Rattle.places.specs.Touches.{change_kind}
 use Rattle.stepper.specs.Effects.{put, bound, filled}
 use Rattle.stepper.specs.Turns.{cell_at}
-use Rattle.laws.specs.Changes.{OfRow}
+use Rattle.laws.specs.Changes.{OfRow, FilledWith}
 use Rattle.laws.specs.Stamps.{field_start}
 use Rattle.laws.proofs.Puts.{Enough, enough_set, put_at}
 
@@ -106,3 +106,7 @@ module _ (z : Sizes) (cs : List ℕ) (d : Change) (h r : ℕ) (n : IsRow z (chan
       (put_at z P two (cell.Stamp k Del r) (cell.Stamp k Ins r) 0 n n enough_two (λ e. absurd cc)
       (put_same one (cell.Stamp k Ins r) pending n enough_one))
   stamp_filled Del = bound_at z (λ v. v ≡ 0) three d r (cell.Stamp k Del r) n n enough_three (λ e b y. absurd b) (put_same two (cell.Stamp k Del r) 0 n enough_two)
+
+  pub filled_with : (c : Cell) → OfRow (change_kind d) r c → FilledWith c (cell_at z (filled z cs d h r) c)
+  filled_with (cell.Stamp j Del q) (e, f) = subst₂ (λ j q. cell_at z (filled z cs d h r) (cell.Stamp j Del q) ≡ 0) (sym e) (sym f) (stamp_filled Del)
+  filled_with c o = tt

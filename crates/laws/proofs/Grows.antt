@@ -1,12 +1,11 @@
 -- What a turn leaves linked stays linked, and a head that is not none stays so.
-use Rattle.std.proofs.Common.{◌≡◌, ℕ, ◌<◌, ◌≤◌, Some, Ok, Err, Result, sym, subst, inl, inr, arith}
+use Rattle.std.proofs.Common.{◌≡◌, ℕ, ◌<◌, Ok, Err, Result, sym, subst, inl, inr}
 use Rattle.layout.specs.declared.names.Kind.{Kind}
 use Rattle.layout.specs.declared.names.Kind.TheVariants.{Vertex}
 use Rattle.layout.specs.declared.names.Head.{Head}
 use Rattle.layout.specs.declared.names.Head.TheVariants as head
 use Rattle.layout.specs.declared.names.Cell.TheVariants as cell
 use Rattle.layout.specs.declared.sizes.Sizes.{Sizes}
-use Rattle.layout.specs.Rows.{row_at}
 use Rattle.layout.specs.Layout.{Named}
 use Rattle.places.specs.declared.place.Pair.{Pair}
 use Rattle.places.specs.declared.place.Bound.{Bound}
@@ -25,8 +24,6 @@ use Rattle.places.specs.declared.place.Place.{Place}
 use Rattle.places.specs.declared.place.Place.TheVariants as place
 use Rattle.places.specs.Touches.{head_kind, look_head, change_head}
 use Rattle.stepper.specs.States.{State}
-use Rattle.stepper.specs.Turns.{worker_at}
-use Rattle.stepper.specs.Workers.{linked_of}
 use Rattle.laws.specs.Fits.{Linked, IsKey, Held, RowOrNone, HeldOrNone, FitPair, FitBound, pair_head, FitLook, FitChange, FitFound, FitSurvey, FitLeg, FitJob, FitPurpose, FitPlace}
 use Rattle.laws.specs.Changes.{number_in}
 use Rattle.laws.proofs.Heads.{look_named, change_named}
@@ -34,17 +31,12 @@ use Rattle.laws.proofs.Heads.{look_named, change_named}
 -- a later state of the same run: no row is unlinked, no head becomes none
 pub record Later (s t : State) : Type 0 where
   pub sizes : t.sizes ≡ s.sizes
-  pub linked : (v : ℕ) (k : Kind) → linked_of (worker_at s v) k ≤ linked_of (worker_at t v) k
+  pub linked : (k : Kind) (r : ℕ) → Linked s k r → Linked t k r
   pub some : (h : Head) → Named s.sizes (cell.Head h) → 0 < number_in s (cell.Head h) → 0 < number_in t (cell.Head h)
 
 module _ (s t : State) (l : Later s t) where
   pub linked_later : (k : Kind) (r : ℕ) → Linked s k r → Linked t k r
-  linked_later k r x = record {
-    owner = x.owner;
-    place = x.place;
-    before = omega (arith, l.linked x.owner k, x.before);
-    is = subst (λ z. row_at z k x.owner x.place ≡ Some r) (sym l.sizes) x.is;
-  }
+  linked_later k r x = l.linked k r x
 
   pub key_later : (i : ℕ) → IsKey s i → IsKey t i
   key_later i k = subst (λ (z : Sizes). i < z.keys) (sym l.sizes) k

@@ -1,8 +1,8 @@
 -- A turn keeps what every run keeps.
-use Rattle.std.proofs.Common.{◌≡◌, ℕ, ◌<◌, ◌≤◌, Bool, true, false, cond, ◌⊎◌, length, Some, Option, sym, refl, ap, ◌∙◌, subst, inl, inr, ⊎_elim, arith}
+use Rattle.std.proofs.Common.{◌≡◌, ℕ, ◌<◌, ◌≤◌, false, cond, ◌⊎◌, length, Some, Option, sym, refl, ap, ◌∙◌, subst, inl, inr, ⊎_elim, arith}
 use Rattle.std.proofs.Math.Nat.{pos_of_ne-zero}
 use Rattle.std.proofs.lemmas.List.{length-set, get_or-set_same}
-use Rattle.std.proofs.lemmas.Bool.{cases_lt, cond_both}
+use Rattle.std.proofs.lemmas.Bool.{cond_both}
 use Rattle.std.specs.Option.{is_some}
 use Rattle.std.specs.declared.ops.ControlFlow.TheVariants.{Continue, Break}
 use Rattle.layout.specs.declared.names.Kind.{Kind}
@@ -13,7 +13,6 @@ use Rattle.layout.specs.declared.names.Head.{Head}
 use Rattle.layout.specs.declared.names.Head.TheVariants as head
 use Rattle.layout.specs.declared.names.Cell.TheVariants as cell
 use Rattle.layout.specs.Layout.{Named}
-use Rattle.layout.specs.Rows.{row_at}
 use Rattle.places.specs.declared.place.Change.{Change}
 use Rattle.places.specs.declared.place.Hand.{Hand}
 use Rattle.places.specs.declared.place.Stage.{Stage}
@@ -34,11 +33,11 @@ use Rattle.stepper.specs.States.{State}
 use Rattle.stepper.specs.Effects.{got_of}
 use Rattle.stepper.specs.Turns.{worker_at, spare_for, hand_of, hand_at, touch_at, next_at, followed_at, turned}
 use Rattle.stepper.specs.Workers.{nobody, more, at, finishes, finished, linked_of, with_book, counted, arrived, followed}
-use Rattle.laws.specs.Fits.{Linked, RowOrNone, HeldOrNone, FitChange, FitSurvey, FitJob, FitPurpose, FitPlace, Fit}
+use Rattle.laws.specs.Fits.{Linked, InChain.at_head, InChain.below, Counted, RowOrNone, HeldOrNone, FitChange, FitSurvey, FitJob, FitPurpose, FitPlace, Fit}
 use Rattle.laws.specs.Changes.{next_own, number_in, Changes}
 use Rattle.laws.specs.Sound.{Sound}
 use Rattle.laws.specs.Stamps.{field_start}
-use Rattle.laws.proofs.Heads.{look_named, job_named}
+use Rattle.laws.proofs.Heads.{look_named, change_named, job_named}
 use Rattle.laws.proofs.Owned.{linked_row, row_bound, next_own_lem}
 use Rattle.laws.proofs.Puts.{set_each}
 use Rattle.laws.proofs.Pages.{enough_entered}
@@ -47,7 +46,7 @@ use Rattle.laws.proofs.Stays.{HeadMoves, head_changes, turn_changes, turn_laws}
 use Rattle.laws.proofs.Outs.{FitOut, FitsNext, HandAt, GotAt, next_of_fit}
 use Rattle.laws.proofs.Counts.{same_kind, count_after, followed_count}
 use Rattle.laws.proofs.Follows.{LinkTurn, Follows, follows}
-use Rattle.laws.proofs.LinkTurns.{lost_differs, won_links, new_older, new_stamp}
+use Rattle.laws.proofs.LinkTurns.{lost_differs, won_links, won_head, new_head, new_older, new_stamp}
 use Rattle.laws.proofs.Grows.{Later, linked_later, row_later, change_later, place_later}
 use Rattle.laws.proofs.Served.{QueueFits, blank_queue, walked_at_good}
 
@@ -62,7 +61,7 @@ module _ (s : State) (w : ℕ) (z : Sound s) (b : w < s.sizes.workers) where
   in_table = omega (arith, z.table)
 
   pub fit : Fit s w
-  fit = record { worker = b; cells = z.cells; place = z.places w b }
+  fit = record { worker = b; cells = z.cells; counted = z.counted; place = z.places w b }
 
   -- each record after the turn
   pub record_each : (P : ℕ → Worker → Type 0) → P w (followed_at s w).worker → ((v : ℕ) → P v (worker_at s v)) → (v : ℕ) → P v (worker_at (turned s w) v)
@@ -104,11 +103,40 @@ module _ (s : State) (w : ℕ) (z : Sound s) (b : w < s.sizes.workers) where
       (λ (m : HeadMoves s w fit h x y). let r = next_own_lem s w (change_kind m.change) y m.own in omega (arith, r.0))
       (head_changes s w fit h x y c)
 
+  -- a linked row was linked at the head that was read, and is the head now
+  new_linked : (c : Change) (r : ℕ) → next_at s w ≡ next.Linked c r → Linked t (change_kind c) r
+  new_linked c r e =
+      let l = linking c r e in
+      at_head (change_head c) r (change_named s c l.fits.0) refl (new_head s w c l.over z.cells l.fits.0 r l.own l.at_link e) (next_own_lem s w (change_kind c) r l.own).0
+
+  moved_follows : (h : Head) (x y : ℕ) → x ≡ number_in s (cell.Head h) → (m : HeadMoves s w fit h x y) → next_at s w ≡ next.Linked m.change y
+  moved_follows h x y a m =
+      let f : FitPlace s (place.Link m.change x) = subst (FitPlace s) m.at_link (z.places w b) in
+      won_links s w m.change x z.cells f.0 y m.own m.at_link (ap (λ g. number_in s (cell.Head g)) (sym m.is) ∙ sym a)
+
+  new_over : (c : Change) (r : ℕ) → next_at s w ≡ next.Linked c r → number_in t (cell.Older (change_kind c) r) ≡ number_in s (cell.Head (change_head c))
+  new_over c r e =
+      let l = linking c r e in
+      new_older s w c l.over z.cells l.fits.0 r l.own l.at_link e ∙ sym (won_head s w c l.over z.cells l.fits.0 r l.own l.at_link e)
+
+  -- what was linked is linked: heads stay or come under the new row
+  chain_later : (k : Kind) (r : ℕ) → Linked s k r → Linked t k r
+  chain_later k r (at_head h _ n e f l) =
+      ⊎_elim
+      (λ (q : number_in t (cell.Head h) ≡ number_in s (cell.Head h)). at_head h r n e (q ∙ f) l)
+      (λ (m : HeadMoves s w fit h (number_in s (cell.Head h)) (number_in t (cell.Head h))).
+      let nx = moved_follows h _ _ refl m in
+      let g : change_kind m.change ≡ k = ap head_kind (sym m.is) ∙ e in
+      let y : ℕ = number_in t (cell.Head h) in
+      let over : number_in t (cell.Older k y) ≡ r = subst (λ (j : Kind). number_in t (cell.Older j y) ≡ number_in s (cell.Head (change_head m.change))) g (new_over m.change y nx) ∙ ap (λ g. number_in s (cell.Head g)) (sym m.is) ∙ f in
+      below y r (subst (λ (j : Kind). Linked t j y) g (new_linked m.change y nx)) over l)
+      (head_changes s w fit h (number_in s (cell.Head h)) (number_in t (cell.Head h)) (turn_changes s w fit (cell.Head h) n))
+  chain_later k r (below q _ x f l) = below q r (chain_later k q x) ((turn_laws s w fit).older k q (linked_row s k q x) x ∙ f) l
+
   pub later : Later s t
   later = record {
     sizes = refl;
-    linked = λ v k. record_each (λ u r. linked_of (worker_at s u) k ≤ linked_of r k)
-        (subst (λ n. linked_of own k ≤ n) (sym (own_count k)) (count_grows k (next_at s w) refl)) (λ u. omega arith) v;
+    linked = chain_later;
     some = λ h m p. head_grows h (number_in s (cell.Head h)) (number_in t (cell.Head h)) (turn_changes s w fit (cell.Head h) m) p;
   }
 
@@ -140,9 +168,9 @@ module _ (s : State) (w : ℕ) (z : Sound s) (b : w < s.sizes.workers) where
   next_fits : FitsNext s (next_at s w)
   next_fits = next_of_fit s own.place (hand_at s w) (got_from own.place) (z.places w b) (got_fits own.place (z.places w b))
 
-  -- a row that was linked in this turn is linked now
-  new_linked : (c : Change) (r : ℕ) → next_at s w ≡ next.Linked c r → Linked t (change_kind c) r
-  new_linked c r e =
+  -- a row that was linked in this turn is counted
+  new_counted : (c : Change) (r : ℕ) → next_at s w ≡ next.Linked c r → Counted t (change_kind c) r
+  new_counted c r e =
       let n : ℕ = linked_of own (change_kind c) in
       let q = (linking c r e).own in
       let same : linked_of (worker_at t w) (change_kind c) ≡ cond (same_kind (change_kind c) (change_kind c)) (more n) n =
@@ -198,8 +226,7 @@ module _ (s : State) (w : ℕ) (z : Sound s) (b : w < s.sizes.workers) where
       ⊎_elim
       (λ (e : y ≡ number_in s (cell.Head h)). subst (RowOrNone t (head_kind h)) (sym e) (row_later s t later (head_kind h) (number_in s (cell.Head h)) (z.heads h n)))
       (λ (m : HeadMoves s w fit h (number_in s (cell.Head h)) y).
-      let f : FitPlace s (place.Link m.change (number_in s (cell.Head h))) = subst (FitPlace s) m.at_link (z.places w b) in
-      let won = won_links s w m.change (number_in s (cell.Head h)) z.cells f.0 y m.own m.at_link (ap (λ g. number_in s (cell.Head g)) (sym m.is)) in
+      let won = moved_follows h (number_in s (cell.Head h)) y refl m in
       inr (subst (λ (k : Kind). Linked t k y) (ap head_kind (sym m.is)) (new_linked m.change y won)))
       (head_changes s w fit h (number_in s (cell.Head h)) y c)
 
@@ -209,37 +236,31 @@ module _ (s : State) (w : ℕ) (z : Sound s) (b : w < s.sizes.workers) where
     pub kind : change_kind change ≡ k
     pub follows : next_at s w ≡ next.Linked change r
 
-  same_kinds : (c k : Kind) → same_kind c k ≡ true → c ≡ k
-  same_kinds Vertex Vertex e = refl
-  same_kinds Edge Edge e = refl
-  same_kinds c k e = absurd cc
-
-  was_linked : (k : Kind) (r o n : ℕ) → n < linked_of (worker_at s o) k → row_at s.sizes k o n ≡ Some r → Linked s k r
-  was_linked k r o n h e = record { owner = o; place = n; before = h; is = e }
-
-  -- of the worker's own rows of a kind, the first are linked, and perhaps the next
-  split_row : (k : Kind) (r n : ℕ) (c : Change) (q : ℕ) (a : Bool) → next_at s w ≡ next.Linked c q → row_at s.sizes k w n ≡ Some r → same_kind (change_kind c) k ≡ a → n < cond a (more (linked_of own k)) (linked_of own k) → Linked s k r ⊎ New k r
-  split_row k r n c q false e i a h = inl (was_linked k r w n h i)
-  split_row k r n c q true e i a h =
-      ⊎_elim
-      (λ (l : n < linked_of own k). inl (was_linked k r w n l i))
-      (λ (l : linked_of own k ≤ n).
-      let m : n ≡ linked_of own k = omega arith in
-      let d : change_kind c ≡ k = same_kinds (change_kind c) k a in
-      let next_is : next_own s w k ≡ Some r = subst (λ j. row_at s.sizes k w j ≡ Some r) m i in
-      let row_is : Some q ≡ Some r = sym (linking c q e).own ∙ ap (next_own s w) d ∙ next_is in
-      inr (record { change = c; kind = d; follows = e ∙ cc }))
-      (cases_lt n (linked_of own k))
-
-  own_split : (k : Kind) (r n : ℕ) (x : Next) → next_at s w ≡ x → row_at s.sizes k w n ≡ Some r → n < count_after x k (linked_of own k) → Linked s k r ⊎ New k r
-  own_split k r n (next.Linked c q) e i h = split_row k r n c q (same_kind (change_kind c) k) e i refl h
-  own_split k r n x e i h = inl (was_linked k r w n h i)
-
   pub split : (k : Kind) (r : ℕ) → Linked t k r → Linked s k r ⊎ New k r
-  split k r l =
-      record_each (λ v u. (n : ℕ) → n < linked_of u k → row_at s.sizes k v n ≡ Some r → Linked s k r ⊎ New k r)
-      (λ n h i. own_split k r n (next_at s w) refl i (subst (λ m. n < m) (own_count k) h)) (λ v n h i. inl (was_linked k r v n h i))
-      l.owner l.place l.before l.is
+  split k r (at_head h _ n e f l) =
+      ⊎_elim
+      (λ (q : number_in t (cell.Head h) ≡ number_in s (cell.Head h)). inl (at_head h r n e (sym q ∙ f) l))
+      (λ (m : HeadMoves s w fit h (number_in s (cell.Head h)) (number_in t (cell.Head h))).
+      inr (record { change = m.change; kind = ap head_kind (sym m.is) ∙ e; follows = moved_follows h _ _ refl m ∙ ap (next.Linked m.change) f }))
+      (head_changes s w fit h (number_in s (cell.Head h)) (number_in t (cell.Head h)) (turn_changes s w fit (cell.Head h) n))
+  split k r (below q _ x f l) =
+      ⊎_elim
+      (λ (o : Linked s k q). inl (below q r o (sym ((turn_laws s w fit).older k q (linked_row s k q o) o) ∙ f) l))
+      (λ (m : New k q).
+      let over = subst (λ (j : Kind). number_in t (cell.Older j q) ≡ number_in s (cell.Head (change_head m.change))) m.kind (new_over m.change q m.follows) in
+      inl (at_head (change_head m.change) r (change_named s m.change (linking m.change q m.follows).fits.0) m.kind (sym over ∙ f) l))
+      (split k q x)
+
+  counts : (v : ℕ) (k : Kind) → linked_of (worker_at s v) k ≤ linked_of (worker_at t v) k
+  counts v k = record_each (λ u r. linked_of (worker_at s u) k ≤ linked_of r k) (subst (λ n. linked_of own k ≤ n) (sym (own_count k)) (count_grows k (next_at s w) refl)) (λ u. omega arith) v
+
+  counted_later : (k : Kind) (r : ℕ) → Counted s k r → Counted t k r
+  counted_later k r x = record { owner = x.owner; place = x.place; before = omega (arith, counts x.owner k, x.before); is = x.is }
+
+  -- linked rows are counted
+  counted_sound : (k : Kind) (r : ℕ) → Linked t k r → Counted t k r
+  counted_sound k r l =
+      ⊎_elim (λ (o : Linked s k r). counted_later k r (z.counted k r o)) (λ (m : New k r). subst (λ (j : Kind). Counted t j r) m.kind (new_counted m.change r m.follows)) (split k r l)
 
   over_row : (c : Change) (h : ℕ) → HeldOrNone s (change_head c) h → RowOrNone t (change_kind c) h
   over_row c h (inl e) = inl e
@@ -271,6 +292,7 @@ module _ (s : State) (w : ℕ) (z : Sound s) (b : w < s.sizes.workers) where
     cells = enough_entered s.sizes _ w (followed_at s w).entry (enough_after s.sizes s.cells (touch_at s w) z.cells);
     table = simp length-set z.table;
     heads = λ h m. head_sound h (number_in t (cell.Head h)) m (turn_changes s w fit (cell.Head h) m);
+    counted = counted_sound;
     olders = older_sound;
     places = record_each (λ v u. v < s.sizes.workers → FitPlace t u.place) (λ _. own_ready.place) (λ v l. place_later s t later (worker_at s v).place (z.places v l));
     queues = λ v n l. record_each (λ v u. v < s.sizes.workers → QueueFits s.sizes.keys u.book) (λ _. own_ready.queue) (λ v l n. z.queues v n l) v l n;

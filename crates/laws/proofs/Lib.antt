@@ -1,11 +1,11 @@
-mod Puts
-mod Pages
+pub mod Puts
+pub mod Pages
 mod Follows
 mod Entries
-mod Owned
-mod Heads
-mod Fills
-mod Touched
+pub mod Owned
+pub mod Heads
+pub mod Fills
+pub mod Touched
 mod Stays
 mod Outs
 mod Served
@@ -15,6 +15,7 @@ mod LinkTurns
 mod Keeps
 mod Begins
 mod Steps
+pub mod Clean
 mod Runs
 mod Places
 mod Stamped

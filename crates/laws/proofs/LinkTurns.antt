@@ -1,6 +1,7 @@
 -- A link turn: whether the swap says yes, and what the new row holds.
-use Rattle.std.proofs.Common.{◌≡◌, ℕ, ◌<◌, Bool, true, false, eqb, List, length, Some, Option, sym, refl, ap, ◌∙◌, arith}
-use Rattle.std.proofs.lemmas.Bool.{eq-eqb, lt-ltb, both_ways}
+use Rattle.std.proofs.Common.{◌≡◌, ℕ, ◌<◌, Bool, true, false, eqb, List, length, Some, None, Option, sym, refl, ap, ◌∙◌, arith}
+use Rattle.std.proofs.lemmas.Bool.{eq-eqb, eqb-true, lt-ltb, both_ways}
+use Rattle.std.proofs.lemmas.List.{get_or-set_same}
 use Rattle.std.specs.Bool.{then_some}
 use Rattle.std.specs.Option.{is_some}
 use Rattle.layout.specs.declared.sizes.Sizes.{Sizes}
@@ -18,7 +19,7 @@ use Rattle.places.specs.Private.{link_kind}
 use Rattle.places.specs.Touches.{change_head, change_kind, link_touch, touch_of}
 use Rattle.places.specs.Nexts.{link_done as next_link, next_of}
 use Rattle.stepper.specs.States.{State}
-use Rattle.stepper.specs.Effects.{filled, link_done, got_of, cells_after, entered}
+use Rattle.stepper.specs.Effects.{put, filled, link_done, got_of, cells_after, entered}
 use Rattle.stepper.specs.Turns.{worker_at, cell_at, spare_for, hand_of, next_at, turned}
 use Rattle.stepper.specs.Workers.{followed}
 use Rattle.laws.specs.Fits.{FitChange}
@@ -86,6 +87,28 @@ module _ (s : State) (w : ℕ) (d : Change) (h : ℕ) (l : Enough s.sizes s.cell
       (λ q v. absurd (apart q)) refl in
       ap (λ x. cell_at z (entered z w (cells_from (worker_at s w).place) (followed z.keys (worker_at s w) (hand_of z s.cells w (worker_at s w) (worker_at s w).place) x).entry) c) nx
       ∙ ap (λ (x : List ℕ). cell_at z x c) linked ∙ value
+
+  won_yes : (o : Option ℕ) (b : Bool) → o ≡ Some r → next_link d o b ≡ next.Linked d r → b ≡ true
+  won_yes (Some q) true e g = refl
+  won_yes (Some q) false e g = absurd cc
+  won_yes None b e g = absurd cc
+
+  -- the head was the one that was read, and is the new row
+  pub won_head : (worker_at s w).place ≡ place.Link d h → next_at s w ≡ next.Linked d r → number_in s top ≡ h
+  won_head e nx = eqb-true (number_in s top) h (sym got_link ∙ won_yes (next_own s w (change_kind d)) _ own (sym (ap (next_from s w) e) ∙ nx))
+
+  pub new_head : (worker_at s w).place ≡ place.Link d h → next_at s w ≡ next.Linked d r → number_in (turned s w) top ≡ r
+  new_head e nx =
+      let n = change_named s d f in
+      let c' : List ℕ = filled z s.cells d h r in
+      let cells_from : Place → List ℕ = λ p. cells_after z s.cells (touch_of p (spare_for z w (worker_at s w) (link_kind p))) in
+      let link : List ℕ = cells_after z s.cells (touch.Link d h r) in
+      let linked : cells_from (worker_at s w).place ≡ link = ap cells_from e ∙ ap (λ o. cells_after z s.cells (link_touch d h o)) own in
+      let same : cell_at z c' top ≡ h = head_filled z s.cells d h r row l (change_head d) n ∙ won_head e nx in
+      let set_is : link ≡ put z c' top r = rw (eq-eqb (cell_at z c' top) h same) refl in
+      let value : cell_at z link top ≡ r = ap (λ (x : List ℕ). cell_at z x top) set_is ∙ get_or-set_same c' (index_of z top) r 0 (omega (arith, index_lt z top n, enough_filled z s.cells d h r l)) in
+      ap (λ x. cell_at z (entered z w (cells_from (worker_at s w).place) (followed z.keys (worker_at s w) (hand_of z s.cells w (worker_at s w) (worker_at s w).place) x).entry) top) nx
+      ∙ ap (λ (x : List ℕ). cell_at z x top) linked ∙ value
 
   -- the new row is over the head that was read
   pub new_older : (worker_at s w).place ≡ place.Link d h → next_at s w ≡ next.Linked d r → number_in (turned s w) (cell.Older (change_kind d) r) ≡ h

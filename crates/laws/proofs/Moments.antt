@@ -1,11 +1,10 @@
 -- Where a stamp comes from: the clock had its number while the field was pending.
-use Rattle.std.proofs.Common.{◌≡◌, ℕ, ◌<◌, ◌≤◌, ◌⊎◌, List, [], ◌∷◌, length, Ok, sym, refl, ap, ◌∙◌, subst, inl, inr, arith}
+use Rattle.std.proofs.Common.{◌≡◌, ℕ, ◌<◌, ◌⊎◌, List, [], ◌∷◌, Ok, sym, refl, ap, ◌∙◌, subst, inl, inr, arith}
 use Rattle.layout.specs.declared.sizes.Sizes.{Sizes}
 use Rattle.layout.specs.declared.names.Kind.{Kind}
 use Rattle.layout.specs.declared.names.Field.{Field}
 use Rattle.layout.specs.declared.names.Cell.{Cell}
 use Rattle.layout.specs.declared.names.Cell.TheVariants as cell
-use Rattle.layout.specs.Layout.{needed}
 use Rattle.places.specs.declared.call.Begin.{Begin}
 use Rattle.places.specs.declared.place.Call.{Call}
 use Rattle.places.specs.declared.place.Call.TheVariants as call
@@ -17,9 +16,7 @@ use Rattle.places.specs.declared.place.Place.TheVariants as place
 use Rattle.places.specs.Calls.{place_first}
 use Rattle.places.specs.Marks.{pending}
 use Rattle.places.specs.Touches.{settled_field}
-use Rattle.stepper.specs.Workers.{fresh, nobody}
 use Rattle.stepper.specs.States.{State}
-use Rattle.stepper.specs.Opening.{opened_state}
 use Rattle.stepper.specs.Turns.{worker_at, turned}
 use Rattle.stepper.specs.Requests.{begun_as, state_begun}
 use Rattle.stepper.specs.History.{Event, Traces}
@@ -27,9 +24,9 @@ use Rattle.stepper.proofs.Stages.{Staged}
 use Rattle.laws.specs.Fits.{Linked, FitPlace, FitPurpose}
 use Rattle.laws.specs.Changes.{number_in}
 use Rattle.laws.specs.Sound.{Sound}
-use Rattle.laws.specs.Stamps.{IsStamp, Moves, Moves.same, Moves.ended, Moves.settled, Moment}
+use Rattle.laws.specs.Clean.{IsStamp, Clean}
+use Rattle.laws.specs.Stamps.{Moves, Moves.same, Moves.ended, Moves.settled, Moment}
 use Rattle.laws.proofs.Touched.{Settled, settled_field_lem}
-use Rattle.laws.proofs.Served.{get_or-replicate}
 use Rattle.laws.proofs.Steps.{step_each, run_each}
 use Rattle.laws.proofs.Runs.{runs_sound}
 use Rattle.laws.proofs.Places.{got_at, number_at, turn_places, begin_places}
@@ -138,16 +135,13 @@ module _ (start : State) (e : Event) (h : List Event) (s : State) (z : Sound s) 
       let t : State = state_begun s b.worker (Ok c) in
       begin_places s b z c a (Known start (e ∷ h) t) (first_known start (e ∷ h) t c) (kept_known t refl refl)
 
-module _ (z : Sizes) (cs : List ℕ) (l : needed z ≤ length cs) where
-  abbrev start : State
-  start = opened_state cs z
-
+module _ (start : State) (c : Clean start) where
   runs_known : (h : List Event) (s : State) → Traces start h s → AllKnown start h s
   runs_known =
-      run_each start (AllKnown start) (λ w b. get_or-replicate (λ u. Known start [] start u.place) 8 w fresh nobody tt tt)
+      run_each start (AllKnown start) (λ w b. subst (Known start [] start) (sym (c.idle w b)) tt)
       (λ e h s t a.
-      let k = runs_sound z cs l h s t in
-      let i = runs_stamped z cs l h s t in
+      let k = runs_sound start c h s t in
+      let i = runs_stamped start c h s t in
       step_each s (AllKnown start (e ∷ h)) (kept_known start e h s k a s refl refl) (begin_known start e h s k a) (λ w b. turn_known start e h s t w k b i a) e.request)
 
   swap_source : (h : List Event) (s : State) (n : ℕ) (p : Purpose) → Known start h s (place.Settle (stage.Swap n) p) → number_in s (settled_field p) ≡ pending → Moment start h (settled_field p) n

@@ -10,11 +10,13 @@ use Rattle.layout.proofs.Owners.{own_row, one_owner}
 use Rattle.stepper.specs.States.{State}
 use Rattle.stepper.specs.Turns.{worker_at}
 use Rattle.stepper.specs.Workers.{linked_of}
-use Rattle.laws.specs.Fits.{Linked}
+use Rattle.laws.specs.Fits.{Linked, InChain.at_head, InChain.below, Counted}
 use Rattle.laws.specs.Changes.{next_own}
 
+-- a linked row is a row
 pub linked_row : (s : State) (k : Kind) (r : ℕ) → Linked s k r → IsRow s.sizes k r
-linked_row s k r l = (own_row s.sizes k l.owner l.place r l.is).0
+linked_row s k r (at_head h _ n e f l) = l
+linked_row s k r (below q _ x f l) = l
 
 few_rows : (z : Sizes) (k : Kind) → rows_each z k ≤ 2048
 few_rows z Vertex = omega arith
@@ -32,9 +34,9 @@ row_bound z k w n r e = grind (arith, few_rows, ltb-true)
 pub next_own_lem : (s : State) (w : ℕ) (k : Kind) (r : ℕ) → next_own s w k ≡ Some r → IsRow s.sizes k r × Owns s.sizes k w r
 next_own_lem s w k r e = own_row s.sizes k w (linked_of (worker_at s w) k) r e
 
--- and it is not linked yet
-pub next_unlinked : (s : State) (w : ℕ) (k : Kind) (r : ℕ) → next_own s w k ≡ Some r → Linked s k r → ⊥
-next_unlinked s w k r e l =
+-- and it is not used yet
+pub next_unused : (s : State) (w : ℕ) (k : Kind) (r : ℕ) → next_own s w k ≡ Some r → Counted s k r → ⊥
+next_unused s w k r e l =
     let z = s.sizes in
     let a = own_row z k l.owner l.place r l.is in
     let o : l.owner ≡ w = one_owner z k l.owner w r a.1 (next_own_lem s w k r e).1 in

@@ -15,13 +15,13 @@ use Rattle.laws.specs.Changes.{OnPage}
 use Rattle.laws.proofs.Puts.{Enough, enough_set, set_at_index, put_at}
 
 -- a cell of worker w's page, by its place in the page
-record PageCell (z : Sizes) (w o : ℕ) : Type 0 where
+pub record PageCell (z : Sizes) (w o : ℕ) : Type 0 where
   pub name : Cell
   pub named : Named z name
   pub on : OnPage w name
   pub lies : index_of z name ≡ page_start z w + o
 
-page_cell_lem : (z : Sizes) (w o : ℕ) → w < z.workers → o < page_size z → PageCell z w o
+pub page_cell_lem : (z : Sizes) (w o : ℕ) → w < z.workers → o < page_size z → PageCell z w o
 page_cell_lem z w o h l =
     ⊎_elim
     (λ (k : o < z.keys). record { name = cell.PageKey w o; named = (h, k); on = refl; lies = refl })

@@ -1,12 +1,10 @@
 -- Every run keeps the clock within its limits, and ins and del of linked rows at 0, pending or a stamp.
-use Rattle.std.proofs.Common.{◌≡◌, ℕ, ◌+◌, ◌<◌, ◌≤◌, List, length, Ok, sym, refl, ap, ◌∙◌, subst, ⊎_elim, arith}
-use Rattle.std.proofs.lemmas.List.{length-append, length-replicate, get_or-set_same}
+use Rattle.std.proofs.Common.{◌≡◌, ℕ, ◌+◌, ◌<◌, List, Ok, sym, refl, ap, ◌∙◌, subst, ⊎_elim, arith}
 use Rattle.layout.specs.declared.sizes.Sizes.{Sizes}
 use Rattle.layout.specs.declared.names.Kind.{Kind}
 use Rattle.layout.specs.declared.names.Field.{Field}
 use Rattle.layout.specs.declared.names.Field.TheVariants.{Ins, Del}
 use Rattle.layout.specs.declared.names.Cell.TheVariants as cell
-use Rattle.layout.specs.Layout.{needed}
 use Rattle.places.specs.declared.call.Begin.{Begin}
 use Rattle.places.specs.declared.place.Call.{Call}
 use Rattle.places.specs.declared.place.Call.TheVariants as call
@@ -14,9 +12,7 @@ use Rattle.places.specs.declared.place.Stage.TheVariants as stage
 use Rattle.places.specs.declared.place.Place.{Place}
 use Rattle.places.specs.declared.place.Place.TheVariants as place
 use Rattle.places.specs.Calls.{place_first}
-use Rattle.stepper.specs.Workers.{fresh, nobody}
 use Rattle.stepper.specs.States.{State}
-use Rattle.stepper.specs.Opening.{cleared, opened_state}
 use Rattle.stepper.specs.Turns.{worker_at, turned}
 use Rattle.stepper.specs.Requests.{begun_as, state_begun}
 use Rattle.stepper.specs.History.{Event, Traces}
@@ -24,14 +20,14 @@ use Rattle.stepper.proofs.Stages.{Staged}
 use Rattle.laws.specs.Fits.{Linked}
 use Rattle.laws.specs.Changes.{number_in, Changes, Changes.keeps, Changes.ticks, Changes.links, Changes.stamps, Changes.ends, Changes.fills, Changes.writes}
 use Rattle.laws.specs.Sound.{Sound}
-use Rattle.laws.specs.Stamps.{IsStamp, field_start, Holds, Holds.not_ended, Holds.waits, Holds.stamped, Moves, Moves.same, Moves.ended, Moves.settled}
-use Rattle.laws.proofs.Owned.{linked_row, next_unlinked}
+use Rattle.laws.specs.Clean.{IsStamp, Clean}
+use Rattle.laws.specs.Stamps.{field_start, Holds, Holds.not_ended, Holds.waits, Holds.stamped, Moves, Moves.same, Moves.ended, Moves.settled}
+use Rattle.laws.proofs.Owned.{linked_row, next_unused}
 use Rattle.laws.proofs.Stays.{turn_changes, clock_changes}
 use Rattle.laws.proofs.Keeps.{New, fit, split, new_starts}
-use Rattle.laws.proofs.Begins.{was}
-use Rattle.laws.proofs.Served.{get_or-replicate}
 use Rattle.laws.proofs.Steps.{step_each, run_each}
-use Rattle.laws.proofs.Runs.{no_links, runs_sound}
+use Rattle.laws.proofs.Clean.{clean_holds}
+use Rattle.laws.proofs.Runs.{runs_sound}
 use Rattle.laws.proofs.Places.{got_at, number_at, turn_places, begin_places}
 
 -- the number that a worker has read off the clock
@@ -74,8 +70,8 @@ module _ (s : State) (w : ℕ) (z : Sound s) (b : w < s.sizes.workers) (i : Stam
   field_moves k f r x y l (links d e c p) = absurd cc
   field_moves k f r x y l (stamps p e c q) = settled q (subst (InHand s.sizes) e (i.hands w b))
   field_moves k f r x y l (ends d q e c a h) = let g : f ≡ Del = cc in ended g a h
-  field_moves k f r x y l (fills j q p o) = absurd (next_unlinked s w j q p (subst (λ (u : Kind). Linked s u q) o.0 (subst (Linked s k) o.1 l)))
-  field_moves k f r x y l (writes o) = absurd o
+  field_moves k f r x y l (fills j q p o b) = absurd (next_unused s w j q p (z.counted j q (subst (λ (u : Kind). Linked s u q) o.0 (subst (Linked s k) o.1 l))))
+  field_moves k f r x y l (writes o q) = absurd o
 
   pub turn_moves : (k : Kind) (f : Field) (r : ℕ) → Linked s k r → Moves s.sizes f (number_in s (cell.Stamp k f r)) (number_in (turned s w) (cell.Stamp k f r))
   turn_moves k f r l = field_moves k f r _ _ l (turn_changes s w (fit s w z b) (cell.Stamp k f r) (linked_row s k r l))
@@ -99,20 +95,18 @@ begin_stamped : (s : State) (b : Begin) → Sound s → Stamped s → (c : Call)
 begin_stamped s b z i c e = record {
   clock = i.clock;
   hands = begin_places s b z c e (InHand s.sizes) (first_hand s.sizes c) i.hands;
-  fields = λ k f r l. i.fields k f r (was s b z c e k r l);
+  fields = λ k f r l. i.fields k f r l;
 }
 
-open_stamped : (z : Sizes) (cs : List ℕ) → needed z ≤ length cs → Stamped (opened_state cs z)
-open_stamped z cs l =
-    let long : 0 < length (cleared (needed z) cs) = simp (length-append, length-replicate) (omega arith) in
-    let one : number_in (opened_state cs z) cell.Clock ≡ 1 = get_or-set_same (cleared (needed z) cs) 0 1 0 long in
-    record {
-      clock = (omega arith, omega arith);
-      hands = λ w b. get_or-replicate (λ u. InHand z u.place) 8 w fresh nobody tt tt;
-      fields = λ k f r x. absurd (omega (arith, x.before, no_links z cs l x.owner k));
-    }
+-- a clean state
+clean_stamped : (s : State) → Clean s → Stamped s
+clean_stamped s c = record {
+  clock = c.clock;
+  hands = λ w b. subst (InHand s.sizes) (sym (c.idle w b)) tt;
+  fields = clean_holds s c;
+}
 
-pub runs_stamped : (z : Sizes) (cs : List ℕ) → needed z ≤ length cs → (h : List Event) (s : State) → Traces (opened_state cs z) h s → Stamped s
-runs_stamped z cs l =
-    run_each (opened_state cs z) (λ h s. Stamped s) (open_stamped z cs l)
-    (λ e h s t i. let k = runs_sound z cs l h s t in step_each s Stamped i (λ b c q. begin_stamped s b k i c q) (λ w b. turn_stamped s w k b i) e.request)
+pub runs_stamped : (start : State) → Clean start → (h : List Event) (s : State) → Traces start h s → Stamped s
+runs_stamped start c =
+    run_each start (λ h s. Stamped s) (clean_stamped start c)
+    (λ e h s t i. let k = runs_sound start c h s t in step_each s Stamped i (λ b c q. begin_stamped s b k i c q) (λ w b. turn_stamped s w k b i) e.request)

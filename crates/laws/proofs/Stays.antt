@@ -9,32 +9,56 @@ use Rattle.layout.specs.Layout.{Named}
 use Rattle.layout.specs.Rows.{Owns}
 use Rattle.layout.proofs.Owners.{one_owner}
 use Rattle.places.specs.declared.place.Change.{Change}
+use Rattle.places.specs.declared.place.Hand.{Hand}
+use Rattle.places.specs.declared.place.Walk.{Walk}
+use Rattle.places.specs.declared.place.Place.{Place}
 use Rattle.places.specs.declared.place.Place.TheVariants as place
 use Rattle.places.specs.declared.place.Purpose.{Purpose}
+use Rattle.places.specs.declared.place.Purpose.TheVariants as purpose
+use Rattle.places.specs.Moved.{Next, Next as next}
+use Rattle.books.specs.declared.walked.Entry.TheVariants as entry
 use Rattle.places.specs.declared.place.Stage.TheVariants.{Swap}
 use Rattle.places.specs.Touches.{change_head, change_kind}
 use Rattle.layout.specs.declared.names.Head.{Head}
 use Rattle.layout.specs.declared.names.Field.{Field}
 use Rattle.layout.specs.declared.names.Field.TheVariants.{Del}
 use Rattle.stepper.specs.States.{State}
-use Rattle.stepper.specs.Effects.{got_of, cells_after}
-use Rattle.stepper.specs.Turns.{worker_at, hand_at, touch_at, followed_at, turned}
-use Rattle.stepper.specs.Workers.{nobody}
+use Rattle.stepper.specs.Effects.{got_of, cells_after, entered}
+use Rattle.stepper.specs.Turns.{worker_at, cell_at, hand_at, touch_at, next_at, followed_at, turned}
+use Rattle.stepper.specs.Workers.{nobody, followed}
+use Rattle.stepper.specs.declared.worker.Worker.{Worker}
 use Rattle.laws.specs.Fits.{Linked, FitPlace, Fit}
-use Rattle.laws.specs.Changes.{OnPage, OfRow, next_own, number_in, Changes, Changes.keeps, Changes.ticks, Changes.links, Changes.stamps, Changes.ends, Changes.fills, Changes.writes}
+use Rattle.laws.specs.Changes.{OnPage, OfRow, Surveys, next_own, number_in, Changes, Changes.keeps, Changes.ticks, Changes.links, Changes.stamps, Changes.ends, Changes.fills, Changes.writes}
 use Rattle.laws.specs.Laws.{Stays, TurnsKeepLaws}
 use Rattle.laws.proofs.Pages.{entered_at}
+use Rattle.laws.proofs.Follows.{AtWalk, Follows, follows}
 use Rattle.laws.proofs.Entries.{entry_fits}
-use Rattle.laws.proofs.Owned.{next_own_lem, next_unlinked}
+use Rattle.laws.proofs.Owned.{next_own_lem, next_unused}
 use Rattle.laws.proofs.Touched.{Settled, settled_field_lem, touched_at, enough_after}
+
+at_survey : (p : Place) (k : Walk) → AtWalk p k → Surveys p
+at_survey (place.Settle st (purpose.Walk f j r)) k a = tt
+at_survey (place.WalkHead j) k a = tt
+at_survey (place.WalkOlder j r) k a = tt
+at_survey p k a = absurd a
+
+-- only a snapshot or reach enters something into its page
+enters : (p : Place) (n : ℕ) (v : Worker) (h : Hand) (x : Next) → Follows p h x → ((followed n v h x).entry ≡ entry.Nothing) ⊎ Surveys p
+enters p n v h (next.Out o) a = inl refl
+enters p n v h (next.Linked c r) a = inl refl
+enters p n v h (next.Raised s t) a = inr (subst Surveys (sym a) tt)
+enters p n v h (next.Walked k r) a = inr (at_survey p k a)
 
 pub turn_changes : (s : State) (w : ℕ) → Fit s w → (c : Cell) → Named s.sizes c → Changes s w c (number_in s c) (number_in (turned s w) c)
 turn_changes s w f c m =
+    let touched = touched_at s w c (worker_at s w).place refl m f.cells f.place in
+    ⊎_elim (λ (e : (followed_at s w).entry ≡ entry.Nothing). subst (λ e. Changes s w c (number_in s c) (cell_at s.sizes (entered s.sizes w (cells_after s.sizes s.cells (touch_at s w)) e) c)) (sym e) touched)
+    (λ (q : Surveys (worker_at s w).place).
     entered_at s.sizes (λ y. Changes s w c (number_in s c) y) (cells_after s.sizes s.cells (touch_at s w)) w (followed_at s w).entry c m
     (enough_after s.sizes s.cells (touch_at s w) f.cells) f.worker
     (entry_fits s s.sizes.keys (worker_at s w) (hand_at s w) (got_of s.sizes s.cells (touch_at s w)) f.place)
-    (λ o y. writes o)
-    (touched_at s w c (worker_at s w).place refl m f.cells f.place)
+    (λ o y. writes o q) touched)
+    (enters (worker_at s w).place s.sizes.keys (worker_at s w) (hand_at s w) (next_at s w) (follows (worker_at s w).place (hand_at s w) (got_of s.sizes s.cells (touch_at s w))))
 
 -- a cell is of a row or on a page, and not both
 row_no_page : (k : Kind) (r v : ℕ) (c : Cell) → OfRow k r c → OnPage v c → ⊥
@@ -82,8 +106,8 @@ module _ (s : State) (w : ℕ) (f : Fit s w) where
   safe_stays c x y n (links d e i p) = absurd (n.no_head (change_head d) i)
   safe_stays c x y n (stamps p e i q) = let t = settled_of p y e in absurd (n.no_field t.kind t.field t.row (i ∙ t.is) t.linked)
   safe_stays c x y n (ends d r e i a b) = absurd (n.no_field (change_kind d) Del r i (ended_of d r e))
-  safe_stays c x y n (fills k r p o) = absurd (n.no_fill k r p o)
-  safe_stays c x y n (writes o) = absurd (n.no_page o)
+  safe_stays c x y n (fills k r p o b) = absurd (n.no_fill k r p o)
+  safe_stays c x y n (writes o q) = absurd (n.no_page o)
 
   pub stays : (c : Cell) → Named s.sizes c → Safe c → Stays s w c
   stays c m n = safe_stays c (number_in s c) (number_in (turned s w) c) n (turn_changes s w f c m)
@@ -95,8 +119,8 @@ module _ (s : State) (w : ℕ) (f : Fit s w) where
   clock_changes x y (links d e i q) = absurd cc
   clock_changes x y (stamps p e i q) = let t = settled_of p y e in absurd (cc (i ∙ t.is))
   clock_changes x y (ends d r e i a b) = absurd cc
-  clock_changes x y (fills k r p o) = absurd o
-  clock_changes x y (writes o) = absurd o
+  clock_changes x y (fills k r p o b) = absurd o
+  clock_changes x y (writes o q) = absurd o
 
   clock_rises : (x y : ℕ) → Changes s w cell.Clock x y → x ≤ y
   clock_rises x y c = ⊎_elim (λ (e : y ≡ x). omega arith) (λ (e : (x < s.sizes.top) × (y ≡ x + 1)). omega arith) (clock_changes x y c)
@@ -113,8 +137,8 @@ module _ (s : State) (w : ℕ) (f : Fit s w) where
   head_changes h x y (links d e i q) = inr (record { change = d; at_link = e; is = cc; own = q })
   head_changes h x y (stamps p e i q) = let t = settled_of p y e in absurd (cc (i ∙ t.is))
   head_changes h x y (ends d r e i a b) = absurd cc
-  head_changes h x y (fills k r p o) = absurd o
-  head_changes h x y (writes o) = absurd o
+  head_changes h x y (fills k r p o b) = absurd o
+  head_changes h x y (writes o q) = absurd o
 
   -- another worker's page
   page_safe : (v : ℕ) (c : Cell) → OnPage v c → ¬ (v ≡ w) → Safe c
@@ -151,7 +175,7 @@ module _ (s : State) (w : ℕ) (f : Fit s w) where
     no_clock = λ e. subst (OfRow k r) e o;
     no_head = λ h e. subst (OfRow k r) e o;
     no_field = λ l g q e j. subst NoStamp e n;
-    no_fill = λ l q p b. let e = same_row k l r q c o b in next_unlinked s w l q p (linked_from l k q r (sym e.0, sym e.1) i);
+    no_fill = λ l q p b. let e = same_row k l r q c o b in next_unused s w l q p (f.counted l q (linked_from l k q r (sym e.0, sym e.1) i));
     no_page = λ b. row_no_page k r w c o b;
   }
 

@@ -1,5 +1,5 @@
 -- What the touch of a turn can do to a named cell.
-use Rattle.std.proofs.Common.{rules, ◌≡◌, ℕ, ◌+◌, ◌<◌, List, Some, None, Option, sym, refl, ap, ◌∙◌, subst}
+use Rattle.std.proofs.Common.{rules, ◌≡◌, ℕ, ◌+◌, ◌<◌, List, Some, None, Option, ◌⊎◌, inl, inr, ⊎_elim, sym, refl, ap, ◌∙◌, subst}
 use Rattle.layout.specs.declared.sizes.Sizes.{Sizes}
 use Rattle.layout.specs.declared.names.Kind.{Kind}
 use Rattle.layout.specs.declared.names.Kind.TheVariants.{Vertex}
@@ -26,10 +26,10 @@ use Rattle.stepper.specs.States.{State}
 use Rattle.stepper.specs.Effects.{filled, cells_after}
 use Rattle.stepper.specs.Turns.{worker_at, cell_at, spare_for}
 use Rattle.laws.specs.Fits.{Linked, FitBound, FitChange, FitPurpose, FitPlace}
-use Rattle.laws.specs.Changes.{next_own, number_in, Changes, Changes.keeps, Changes.ticks, Changes.links, Changes.stamps, Changes.ends, Changes.fills}
+use Rattle.laws.specs.Changes.{OfRow, next_own, number_in, Changes, Changes.keeps, Changes.ticks, Changes.links, Changes.stamps, Changes.ends, Changes.fills}
 use Rattle.laws.proofs.Heads.{change_named}
 use Rattle.laws.proofs.Puts.{Enough, enough_set, swap_at, raise_at}
-use Rattle.laws.proofs.Fills.{fill_at, head_filled, enough_filled}
+use Rattle.laws.proofs.Fills.{fill_at, filled_with, head_filled, enough_filled}
 use Rattle.laws.proofs.Owned.{linked_row, next_own_lem}
 
 -- the field that is settled is of a linked row
@@ -71,7 +71,8 @@ module _ (s : State) (w : ℕ) (c : Cell) (d : Change) (h : ℕ) (at : (worker_a
       (λ e v.
       let x : number_in s c ≡ h = ap (number_in s) e ∙ sym (head_filled s.sizes s.cells d h r n l (change_head d) (change_named s d f)) ∙ v in
       links d (subst (λ y. (worker_at s w).place ≡ place.Link d y) (sym x) at) e q)
-      (fill_at z s.cells d h r n l P c m (λ o y. fills (change_kind d) r q o) (keeps refl))
+      (⊎_elim (λ (o : OfRow (change_kind d) r c). fills (change_kind d) r q o (filled_with z s.cells d h r n l c o)) (λ (x : P (cell_at z (filled z s.cells d h r) c)). x)
+      (fill_at z s.cells d h r n l (λ y. OfRow (change_kind d) r c ⊎ P y) c m (λ o y. inl o) (inr (keeps refl))))
 
   link_at : (o : Option ℕ) → next_own s w (change_kind d) ≡ o → Changes s w c (number_in s c) (cell_at s.sizes (cells_after s.sizes s.cells (link_touch d h o)) c)
   link_at None q = keeps refl

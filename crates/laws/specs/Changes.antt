@@ -7,8 +7,10 @@ use Rattle.layout.specs.declared.names.Cell.{Cell}
 use Rattle.layout.specs.declared.names.Cell.TheVariants as cell
 use Rattle.places.specs.declared.place.Change.{Change}
 use Rattle.places.specs.declared.place.Purpose.{Purpose}
+use Rattle.places.specs.declared.place.Purpose.TheVariants as purpose
 use Rattle.places.specs.declared.place.Survey.{Survey}
 use Rattle.places.specs.declared.place.Stage.TheVariants as stage
+use Rattle.places.specs.declared.place.Place.{Place}
 use Rattle.places.specs.declared.place.Place.TheVariants as place
 use Rattle.places.specs.Marks.{pending}
 use Rattle.places.specs.Touches.{change_head, change_kind, settled_field}
@@ -37,6 +39,19 @@ next_own s w k = next_row s.sizes w (worker_at s w) k
 abbrev pub number_in : State → Cell → ℕ
 number_in s c = cell_at s.sizes s.cells c
 
+-- what del of a row is filled with
+abbrev pub FilledWith : Cell → ℕ → Type 0
+FilledWith (cell.Stamp k Del r) y = y ≡ 0
+FilledWith c y = Unit {0}
+
+-- a place of a snapshot or reach
+abbrev pub Surveys : Place → Type 0
+Surveys (place.Settle st (purpose.Walk f k r)) = Unit {0}
+Surveys (place.Raise v) = Unit {0}
+Surveys (place.WalkHead k) = Unit {0}
+Surveys (place.WalkOlder k r) = Unit {0}
+Surveys p = ⊥
+
 -- from number x to number y
 pub data Changes (s : State) (w : ℕ) (c : Cell) (x y : ℕ) : Type 0 where
   -- nothing
@@ -49,7 +64,7 @@ pub data Changes (s : State) (w : ℕ) (c : Cell) (x y : ℕ) : Type 0 where
   stamps : (p : Purpose) → (worker_at s w).place ≡ place.Settle (stage.Swap y) p → c ≡ settled_field p → x ≡ pending → Changes s w c x y
   -- del of a linked row goes from 0 to pending
   ends : (d : Change) (r : ℕ) → (worker_at s w).place ≡ place.End d r → c ≡ cell.Stamp (change_kind d) Del r → x ≡ 0 → y ≡ pending → Changes s w c x y
-  -- private: the worker's next row is filled
-  fills : (k : Kind) (r : ℕ) → next_own s w k ≡ Some r → OfRow k r c → Changes s w c x y
-  -- private: the worker's page
-  writes : OnPage w c → Changes s w c x y
+  -- private: the worker's next row is filled, with del not ended
+  fills : (k : Kind) (r : ℕ) → next_own s w k ≡ Some r → OfRow k r c → FilledWith c y → Changes s w c x y
+  -- private: the worker's page, in a snapshot or reach
+  writes : OnPage w c → Surveys (worker_at s w).place → Changes s w c x y

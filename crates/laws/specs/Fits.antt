@@ -1,11 +1,12 @@
--- Places whose keys are keys of the opening and whose rows are linked.
-use Rattle.std.specs.Prelude.{◌≡◌, ℕ, ◌<◌, ◌≤◌, ◌⊎◌, length, Some, Ok, Err, Result}
+-- Places whose keys are keys of the sizes and whose rows are linked.
+use Rattle.std.specs.Prelude.{◌≡◌, ℕ, ◌<◌, ◌≤◌, ◌⊎◌, List, length, Some, Ok, Err, Result}
+use Rattle.layout.specs.declared.sizes.Sizes.{Sizes}
 use Rattle.layout.specs.declared.names.Kind.{Kind}
 use Rattle.layout.specs.declared.names.Kind.TheVariants.{Vertex}
 use Rattle.layout.specs.declared.names.Head.{Head}
 use Rattle.layout.specs.declared.names.Head.TheVariants as head
 use Rattle.layout.specs.declared.names.Cell.TheVariants as cell
-use Rattle.layout.specs.Layout.{needed}
+use Rattle.layout.specs.Layout.{needed, Named, IsRow}
 use Rattle.layout.specs.Rows.{no_row, row_at}
 use Rattle.places.specs.declared.place.Pair.{Pair}
 use Rattle.places.specs.declared.place.Bound.{Bound}
@@ -27,8 +28,17 @@ use Rattle.stepper.specs.States.{State}
 use Rattle.stepper.specs.Turns.{worker_at, cell_at}
 use Rattle.stepper.specs.Workers.{linked_of}
 
--- row r of kind k is linked: it is among the rows that its owner has linked
-pub record Linked (s : State) (k : Kind) (r : ℕ) : Type 0 where
+-- row r of kind k is in a chain: it is the row of a head, or the older row of one that is in a chain
+pub data InChain (z : Sizes) (cs : List ℕ) (k : Kind) : ℕ → Type 0 where
+  at_head : (h : Head) (r : ℕ) → Named z (cell.Head h) → head_kind h ≡ k → cell_at z cs (cell.Head h) ≡ r → IsRow z k r → InChain z cs k r
+  below : (q r : ℕ) → InChain z cs k q → cell_at z cs (cell.Older k q) ≡ r → IsRow z k r → InChain z cs k r
+
+-- row r of kind k is linked
+abbrev pub Linked : State → Kind → ℕ → Type 0
+Linked s k r = InChain s.sizes s.cells k r
+
+-- it is among the rows that its owner has used
+pub record Counted (s : State) (k : Kind) (r : ℕ) : Type 0 where
   pub owner : ℕ
   pub place : ℕ
   pub before : place < linked_of (worker_at s owner) k
@@ -114,4 +124,6 @@ FitPlace s (place.WalkOlder k r) = FitJob s k.job × Linked s (job_kind k.job) r
 pub record Fit (s : State) (w : ℕ) : Type 0 where
   pub worker : w < s.sizes.workers
   pub cells : needed s.sizes ≤ length s.cells
+  -- the row that comes next is not linked, since linked rows are counted
+  pub counted : (k : Kind) (r : ℕ) → Linked s k r → Counted s k r
   pub place : FitPlace s (worker_at s w).place

@@ -1,5 +1,6 @@
 pub mod Fits
 pub mod Changes
+pub mod Clean
 pub mod Laws
 pub mod Sound
 pub mod Stamps

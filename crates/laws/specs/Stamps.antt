@@ -1,27 +1,22 @@
 -- What every run keeps of the clock and of ins and del of linked rows.
-use Rattle.std.specs.Prelude.{◌≡◌, ℕ, ◌<◌, ◌≤◌, List, ◌++◌, length}
+use Rattle.std.specs.Prelude.{◌≡◌, ℕ, ◌<◌, List, ◌++◌}
 use Rattle.layout.specs.declared.sizes.Sizes.{Sizes}
 use Rattle.layout.specs.declared.names.Kind.{Kind}
 use Rattle.layout.specs.declared.names.Field.{Field}
 use Rattle.layout.specs.declared.names.Field.TheVariants.{Ins, Del}
 use Rattle.layout.specs.declared.names.Cell.{Cell}
 use Rattle.layout.specs.declared.names.Cell.TheVariants as cell
-use Rattle.layout.specs.Layout.{needed}
 use Rattle.places.specs.declared.place.Stage.TheVariants as stage
 use Rattle.places.specs.declared.place.Purpose.{Purpose}
 use Rattle.places.specs.declared.place.Place.TheVariants as place
 use Rattle.places.specs.Marks.{pending}
 use Rattle.places.specs.Touches.{settled_field}
 use Rattle.stepper.specs.States.{State}
-use Rattle.stepper.specs.Opening.{opened_state}
 use Rattle.stepper.specs.Turns.{worker_at, turned}
 use Rattle.stepper.specs.History.{Event, Traces}
 use Rattle.laws.specs.Fits.{Linked}
 use Rattle.laws.specs.Changes.{number_in}
-
--- a number that the clock can have; it is neither 0 nor pending
-abbrev pub IsStamp : Sizes → ℕ → Type 0
-IsStamp z n = (1 ≤ n) × (n ≤ z.top)
+use Rattle.laws.specs.Clean.{IsStamp, Clean}
 
 -- what ins and del of a row hold when it is linked
 abbrev pub field_start : Field → ℕ
@@ -50,7 +45,7 @@ pub record Moment (start : State) (h : List Event) (c : Cell) (n : ℕ) : Type 0
   pub clock : number_in state cell.Clock ≡ n
   pub waited : number_in state c ≡ pending
 
--- a state s that history h leads to from an opening
+-- a state s that history h leads to
 pub record StampLaws (start : State) (h : List Event) (s : State) : Type 0 where
   pub sizes : s.sizes ≡ start.sizes
   -- a stamp is neither 0 nor pending
@@ -66,6 +61,6 @@ pub record StampLaws (start : State) (h : List Event) (s : State) : Type 0 where
   -- the number that a worker puts in for pending is one that the clock had while the field was pending
   pub sources : (w : ℕ) → w < s.sizes.workers → (n : ℕ) (p : Purpose) → (worker_at s w).place ≡ place.Settle (stage.Swap n) p → number_in s (settled_field p) ≡ pending → Moment start h (settled_field p) n
 
--- every state that a history of begins and turns leads to from an opening
+-- every state that a history of begins and turns leads to from a clean state
 abbrev pub RunsStamp : Type 0
-RunsStamp = (z : Sizes) (cs : List ℕ) → needed z ≤ length cs → (h : List Event) (s : State) → Traces (opened_state cs z) h s → StampLaws (opened_state cs z) h s
+RunsStamp = (start : State) → Clean start → (h : List Event) (s : State) → Traces start h s → StampLaws start h s

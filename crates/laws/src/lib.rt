@@ -1,6 +1,7 @@
 // Laws of single turns, and that every run keeps them.
 #![tactic(auto)]
 
+ghost use Rattle.laws.specs.Clean.{OpeningsClean};
 ghost use Rattle.laws.specs.Laws.{TurnsKeepLaws};
 ghost use Rattle.laws.specs.Sound.{RunsKeepLaws, RunsSound};
 ghost use Rattle.laws.specs.Stamps.{RunsStamp};
@@ -8,6 +9,11 @@ ghost use Rattle.laws.specs.Stamps.{RunsStamp};
 // Which cells a turn can change and how, and what it leaves as it was.
 pub fn turn_laws()
     ensures { TurnsKeepLaws }
+{}
+
+// Every opening is clean.
+pub fn openings_clean()
+    ensures { OpeningsClean }
 {}
 
 // In every state that a list of begins and turns leads to, each place names keys and linked rows.

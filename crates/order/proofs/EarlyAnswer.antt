@@ -1,30 +1,19 @@
--- The worked case of an add that is answered before the row that won its link has its stamp: no order explains it.
-use Rattle.std.proofs.Common.{◌≡◌, ℕ, zero, suc, ◌<◌, List, [], ◌∷◌, Contains, length, get_or, ◌≢◌, ◌⊎◌, refl, ◌∙◌, ap, subst, subst₂, inl, inr, arith}
+-- The worked case of a lost link that is answered before the row that won it has its stamp: no call can stand first.
+use Rattle.std.proofs.Common.{◌≡◌, ℕ, false, [], ◌∷◌, List, Contains, ◌⊎◌, refl, sym, inl, inr, arith}
 use Rattle.std.proofs.lemmas.Bool.{cases_eq}
 use Rattle.std.proofs.lemmas.Bool.Decides.{nat_tests}
+use Rattle.codes.specs.declared.answer.Answer.TheVariants.{VertexAlready}
 use Rattle.questions.specs.Graph.{Graph}
 use Rattle.order.specs.Graph.{empty}
-use Rattle.order.specs.Past.{Past, Precedes, Belongs}
-use Rattle.order.specs.Order.{standings, Explained, stamping, StampOrder, OneOrder}
-use Rattle.codes.specs.declared.answer.Answer.TheVariants.{VertexAlready}
-use Rattle.order.proofs.Replay.{call_at, length-standings}
-use Rattle.order.specs.Worked.{early_answer}
+use Rattle.order.specs.Past.{Belongs}
+use Rattle.order.specs.Order.{OneOrder}
+use Rattle.order.specs.Mistakes.{Tells, lost_link}
+use Rattle.order.proofs.Short.{short_order}
+use Rattle.order.proofs.Lists.{contains_none, contains_rest}
+use Rattle.order.proofs.Through.{Through, through_same, no_order}
 
--- the standing of the call b, which has the place j in an order
-standing_of : (h : Past) (g : Graph) (order : List ℕ) (b j : ℕ) → get_or order j b ≡ b →
-    (before : Graph) × (get_or (standings h g order) j (record { call = b; before = g }) ≡ record { call = b; before = before })
-standing_of h g order b j e =
-    let s = get_or (standings h g order) j (record { call = b; before = g }) in
-    (s.before, ap (λ c. record { call = c; before = s.before }) (call_at h g order j b g ∙ e))
-
-belongs_second : Belongs early_answer 2
-belongs_second = record { began = refl; done = inl refl }
-
-belongs_snapshot : Belongs early_answer 7
-belongs_snapshot = record { began = refl; done = inl refl }
-
-one_of_three : (b : ℕ) → Belongs early_answer b → (b ≡ 1) ⊎ ((b ≡ 2) ⊎ (b ≡ 7))
-one_of_three b h = elim (cases_eq b 1) [
+one_of_three : (t b : ℕ) → Belongs (lost_link t) b → (b ≡ 1) ⊎ ((b ≡ 2) ⊎ (b ≡ 7))
+one_of_three t b h = elim (cases_eq b 1) [
   | inl q ↦ inl q
   | inr q ↦ elim (cases_eq b 2) [
     | inl p ↦ inr (inl p)
@@ -32,40 +21,42 @@ one_of_three b h = elim (cases_eq b 1) [
   ]
 ]
 
--- the place of a call in an order that begins with another
-later : (b c : ℕ) (bs : List ℕ) → b ≢ c → Contains (b ∷ bs) c → (j : ℕ) × (0 < j) × (j < length (b ∷ bs)) × (get_or (b ∷ bs) j c ≡ c)
-later b c bs n (zero, l, e) = absurd (n e)
-later b c bs n (suc j, l, e) = (suc j, omega arith, l, e)
+belongs : (t b : ℕ) → (b ≡ 1) ⊎ ((b ≡ 2) ⊎ (b ≡ 7)) → Belongs (lost_link t) b
+belongs t b (inl q) = record { began = grind (arith, nat_tests); done = inl (grind (arith, nat_tests)) }
+belongs t b (inr (inl q)) = record { began = grind (arith, nat_tests); done = inl (grind (arith, nat_tests)) }
+belongs t b (inr (inr q)) = record { began = grind (arith, nat_tests); done = inl (grind (arith, nat_tests)) }
 
-module _ (b : ℕ) (bs : List ℕ) (o : OneOrder early_answer empty (b ∷ bs)) where
-  -- the snapshot raised the clock from a number below the stamp of the first add
-  not_first_add : b ≢ 1
-  not_first_add q =
-      let (j, low, high, e) = later b 7 bs (λ z. omega arith) ((o.members 7).1 belongs_snapshot) in
-      let (before, s) = standing_of early_answer empty (b ∷ bs) 7 j e in
-      let turn = o.stamps 0 j (record { call = 7; before = empty }) low (omega (arith, length-standings early_answer empty (b ∷ bs))) in
-      let known : StampOrder (stamping early_answer (record { call = 1; before = empty })) (stamping early_answer (record { call = 7; before = before })) =
-      subst₂ (λ x y. StampOrder (stamping early_answer (record { call = x; before = empty })) (stamping early_answer y)) q s turn in
-      omega (arith, known)
+-- the snapshot and the second add are yet to come, and the vertex is not there
+abbrev Q : Graph → List ℕ → Type 0
+Q g bs = Contains bs 7 × Contains bs 2 × (g.has 0 ≡ false)
 
-  -- the empty graph has no vertex for the second add to find
-  not_second_add : b ≢ 2
-  not_second_add q =
-      let e = o.explains 0 (record { call = b; before = empty }) (omega arith) in
-      let known : Explained early_answer (record { call = 2; before = empty }) = subst (λ x. Explained early_answer (record { call = x; before = empty })) q e in
-      absurd (let f = known.answer in grind arith)
+adds : Through (lost_link 5) Q 1
+adds g bs n (z, w, absent) = absurd (let s = n.stamps 7 (contains_rest 1 7 bs (λ e. omega (arith, e)) z) in omega (arith, s))
 
-  -- the second add was finished before the snapshot began
-  not_snapshot : b ≢ 7
-  not_snapshot q =
-      let (j, low, high, e) = later b 2 bs (λ z. omega arith) ((o.members 2).1 belongs_second) in
-      subst₂ (λ x y. ¬ (Precedes early_answer x y)) e q (o.precedence 0 j 2 low high) (record { time = 5; answer = VertexAlready; page = empty }, refl, omega arith)
+adds_again : Through (lost_link 5) Q 2
+adds_again g bs n (z, w, absent) = absurd (let a = n.explained.answer in grind arith)
 
--- no call can stand first
-pub refused : (order : List ℕ) → ¬ (OneOrder early_answer empty order)
-refused [] o = let c = (o.members 7).1 belongs_snapshot in omega (arith, c.1)
-refused (b ∷ bs) o = elim (one_of_three b ((o.members b).0 (0, omega arith, refl))) [
-  | inl q ↦ not_first_add b bs o q
-  | inr (inl q) ↦ not_second_add b bs o q
-  | inr (inr q) ↦ not_snapshot b bs o q
+takes_snapshot : Through (lost_link 5) Q 7
+takes_snapshot g bs n (z, w, absent) =
+    absurd (n.not_after 2 (contains_rest 7 2 bs (λ e. omega (arith, e)) w) (record { time = 5; answer = VertexAlready; page = empty }, refl, omega arith))
+
+step : (b : ℕ) → Belongs (lost_link 5) b → Through (lost_link 5) Q b
+step b h = elim (one_of_three 5 b h) [
+  | inl q ↦ through_same (lost_link 5) Q b 1 q adds
+  | inr (inl q) ↦ through_same (lost_link 5) Q b 2 q adds_again
+  | inr (inr q) ↦ through_same (lost_link 5) Q b 7 q takes_snapshot
 ]
+
+order : OneOrder (lost_link 11) empty (7 ∷ 1 ∷ 2 ∷ [])
+order = short_order (lost_link 11) empty (7 ∷ 1 ∷ 2 ∷ [])
+    (λ b h. elim (one_of_three 11 b h) [ inl q ↦ (1, omega arith, sym q) | inr (inl q) ↦ (2, omega arith, sym q) | inr (inr q) ↦ (0, omega arith, sym q) ])
+    (belongs 11 7 (inr (inr refl)), (belongs 11 1 (inl refl), (belongs 11 2 (inr (inl refl)), tt)))
+    (((refl, omega arith, omega arith), ((refl, omega arith, tt), tt)), (((refl, omega arith, tt), tt), (tt, tt)))
+    (record { answer = refl; page = refl }, (record { answer = refl; page = tt }, (record { answer = refl; page = tt }, tt)))
+
+pub early_answer : Tells lost_link empty 11 5
+early_answer = record {
+  right = (7 ∷ 1 ∷ 2 ∷ [], order);
+  wrong = no_order (lost_link 5) Q step (λ g q. contains_none 7 q.0) empty
+      (λ order o. ((o.members 7).1 (belongs 5 7 (inr (inr refl))), (o.members 2).1 (belongs 5 2 (inr (inl refl))), refl));
+}

@@ -1,3 +1,4 @@
+mod Lists
 mod LastBelow
 mod Rows
 mod Keys
@@ -12,7 +13,20 @@ mod Numbered
 mod Owners
 mod Marked
 mod Raises
+mod Ends
+mod Clean
 pub mod Seen
+mod Stands
+mod Copies
+mod Joined
+mod Stretches
+mod Short
 mod TwoCalls
+mod Started
+mod AfterAdds
+mod Through
 mod EarlyAnswer
+mod EndedRow
+mod HiddenEdge
+mod Members
 pub mod Fitting

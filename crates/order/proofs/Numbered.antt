@@ -1,9 +1,9 @@
 -- The keys of the calls of a run as numbers: each call has its own, above the start, and precedence goes by them.
-use Rattle.std.proofs.Common.{◌≡◌, ℕ, suc, ◌+◌, ◌-◌, ◌<◌, Some, None, Option, refl, arith}
+use Rattle.std.proofs.Common.{◌≡◌, ℕ, ◌+◌, ◌-◌, ◌<◌, Some, None, Option, refl, arith}
 use Rattle.order.specs.Past.{Past, Precedes}
 use Rattle.order.specs.Keys.{Key, Bounded, number, Fits}
 use Rattle.order.specs.Rows.{Rows, rows_of}
-use Rattle.order.specs.Marked.{Marking, end_of, CallMarked, Marked, start_key}
+use Rattle.order.specs.Marked.{Marking, end_of, CallMarked, Marked, start_key, end_key}
 use Rattle.order.proofs.Keys.{number_by_stamp, compared, precedence}
 
 abbrev pub number_of : ℕ → Option Key → Option ℕ
@@ -23,14 +23,10 @@ module _ {h : Past} {run : Marking} (p : Marked h run) where
   abbrev pub key : ℕ → Option ℕ
   key b = number_of run.bound (run.key b)
 
-  -- a key above those of all calls
-  abbrev pub end_key : Key
-  end_key = record { stamp = suc run.top; time = 0; part = 0 }
-
   pub bounded_start : Bounded run.bound (start_key run)
   bounded_start = omega (arith, p.some_time)
 
-  pub bounded_end : Bounded run.bound end_key
+  pub bounded_end : Bounded run.bound (end_key run)
   bounded_end = omega (arith, p.some_time)
 
   -- the number of the start, and how far above it that of the greatest key is
@@ -38,11 +34,11 @@ module _ {h : Past} {run : Marking} (p : Marked h run) where
   bottom = number run.bound (start_key run)
 
   pub span : ℕ
-  span = number run.bound end_key - number run.bound (start_key run)
+  span = number run.bound (end_key run) - number run.bound (start_key run)
 
-  pub bottom_and_span : bottom + span ≡ number run.bound end_key
+  pub bottom_and_span : bottom + span ≡ number run.bound (end_key run)
   unfolding span
-  bottom_and_span = omega (arith, number_by_stamp run.bound (start_key run) end_key bounded_start (omega (arith, p.start_stamp)))
+  bottom_and_span = omega (arith, number_by_stamp run.bound (start_key run) (end_key run) bounded_start (omega (arith, p.start_stamp)))
 
   -- the call b has a key with the number n
   pub record Keyed (b n : ℕ) : Type 0 where
@@ -64,7 +60,7 @@ module _ {h : Past} {run : Marking} (p : Marked h run) where
   ranges b n e =
       let k = keyed b n e in
       let above = compared run.bound k.at (start_key run) k.call.bounded bounded_start in
-      let below = compared run.bound k.at end_key k.call.bounded bounded_end in
+      let below = compared run.bound k.at (end_key run) k.call.bounded bounded_end in
       (k.call.early, omega (arith, above, k.number, k.call.time, k.call.low), omega (arith, bottom_and_span, below, k.number, k.call.high))
 
   pub in_precedence : (b c n o : ℕ) → key b ≡ Some n → key c ≡ Some o → Precedes h b c → n < o

@@ -3,15 +3,15 @@ use Rattle.std.proofs.Common.{◌≡◌, ℕ, suc, ◌+◌, ◌<◌, ◌≤◌, 
 use Rattle.std.proofs.lemmas.Bool.{cases_Bool}
 use Rattle.order.specs.Past.{Past}
 use Rattle.order.specs.Keys.{Key, Bounded, number}
-use Rattle.order.specs.Marks.{source_end, target_end, Mark, change_key, moved_key, has_effect}
+use Rattle.order.specs.Marks.{source_end, target_end, Mark, Old, change_key, moved_key, has_effect}
 use Rattle.order.specs.Rows.{far_key, unborn, edge_number}
 use Rattle.order.specs.Finds.{RowChange, no_change, vertex_born, vertex_ends, edge_born, edge_ends}
-use Rattle.order.specs.Marked.{Marking, Made, before_start, by_call, Marked, start_key}
+use Rattle.order.specs.Marked.{Marking, Made, before_start, by_call, Marked, start_key, end_key}
 use Rattle.order.proofs.Keys.{compared}
 use Rattle.order.proofs.Moves.{moved_for_le, moved_part_is, bounded_change, bounded_moved}
 use Rattle.order.proofs.Lives.{edge_number_effect, edge_number_far}
 use Rattle.order.proofs.Changes.{Only}
-use Rattle.order.proofs.Numbered.{rows, key, end_key, bounded_start, bounded_end, bottom, span, bottom_and_span, apart}
+use Rattle.order.proofs.Numbered.{rows, key, bounded_start, bounded_end, bottom, span, bottom_and_span, apart}
 
 module _ {h : Past} {run : Marking} (p : Marked h run) where
   -- the change v at the key after n is that of a call with that key
@@ -27,8 +27,8 @@ module _ {h : Past} {run : Marking} (p : Marked h run) where
         (x.stamp ≤ run.top → Made run x (change_key run.bound x) v) → Owned n v
     vertex_owned x v t q by =
         let bounded = bounded_change run.bound x t in
-        elim (by (omega (arith, bottom_and_span p, compared run.bound (change_key run.bound x) (end_key p) bounded (bounded_end p)))) [
-          | before_start time stamp ↦ absurd (omega (arith, compared run.bound (change_key run.bound x) (start_key run) bounded (bounded_start p)))
+        elim (by (omega (arith, bottom_and_span p, compared run.bound (change_key run.bound x) (end_key run) bounded (bounded_end p)))) [
+          | before_start old ↦ absurd (omega (arith, old, compared run.bound (change_key run.bound x) (start_key run) bounded (bounded_start p)))
           | by_call b e f ↦ owned_by (change_key run.bound x) n v q b e f
         ]
 
@@ -36,13 +36,13 @@ module _ {h : Past} {run : Marking} (p : Marked h run) where
     far_not_next : (m : ℕ) → run.top < m → number run.bound (far_key run.bound m) ≡ suc n → ⊥
     far_not_next m far q =
         let bounded_far : Bounded run.bound (far_key run.bound m) = omega (arith, p.some_time) in
-        omega (arith, bottom_and_span p, compared run.bound (far_key run.bound m) (end_key p) bounded_far (bounded_end p))
+        omega (arith, bottom_and_span p, compared run.bound (far_key run.bound m) (end_key run) bounded_far (bounded_end p))
 
     -- an edge change from before the start has a key of the start
-    old_not_next : (d f x : Mark) → x.time < run.bound → x.time ≡ 0 → x.stamp ≤ run.clock 0 → number run.bound (moved_key run.bound d f x) ≡ suc n → ⊥
-    old_not_next d f x t time stamp q =
+    old_not_next : (d f x : Mark) → x.time < run.bound → Old run.clock x → number run.bound (moved_key run.bound d f x) ≡ suc n → ⊥
+    old_not_next d f x t old q =
         let order = compared run.bound (moved_key run.bound d f x) (start_key run) (bounded_moved run.bound d f x t) (bounded_start p) in
-        omega (arith, order, moved_for_le d x, moved_part_is run.bound d f x)
+        omega (arith, old, order, moved_for_le d x, moved_part_is run.bound d f x)
 
     -- an edge change at the key after n
     edge_owned : (m : ℕ) (d f x : Mark) (v : RowChange) → run.top < m → x.time < run.bound → edge_number run.bound run.top m d f x ≡ suc n →
@@ -52,7 +52,7 @@ module _ {h : Past} {run : Marking} (p : Marked h run) where
       | inl h ↦
           (let at = sym (edge_number_effect run.bound run.top m d f x h) ∙ q in
           elim (by h) [
-            | before_start time stamp ↦ absurd (old_not_next d f x t time stamp at)
+            | before_start old ↦ absurd (old_not_next d f x t old at)
             | by_call b e g ↦ owned_by (moved_key run.bound d f x) n v at b e g
           ])
     ]

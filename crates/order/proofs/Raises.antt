@@ -1,5 +1,5 @@
 -- The graph just before a raise is that of the rows that are visible at its number.
-use Rattle.std.proofs.Common.{◌≡◌, ℕ, zero, suc, pred, ◌<◌, ◌≤◌, Bool, true, false, Some, None, Option, ◌≢◌, refl, sym, ◌∙◌, ap, subst₂, inl, inr, arith}
+use Rattle.std.proofs.Common.{◌≡◌, ℕ, zero, suc, pred, ◌<◌, ◌≤◌, Bool, true, false, Some, None, Option, ◌≢◌, ◌↔◌, refl, sym, ◌∙◌, ap, subst₂, inl, inr, arith}
 use Rattle.std.proofs.lemmas.Bool.{cases_lt}
 use Rattle.std.proofs.lemmas.Bool.Decides.{nat_tests}
 use Rattle.questions.specs.Graph.{Graph}
@@ -24,11 +24,13 @@ option_equal (Some x) b f g = sym (f x refl)
 option_equal None (Some x) f g = g x refl
 option_equal None None f g = refl
 
--- two graphs that show the visible rows are one
-visible_equal : (m : Marks) (t : ℕ) (g h : Graph) → ShowsVisible m t g → ShowsVisible m t h → g ≡ h
-visible_equal m t g h a b = graph_equal g h
-    (λ i. bool_equal (g.has i) (h.has i) (λ e. (b.vertices i).1 ((a.vertices i).0 e)) (λ e. (a.vertices i).1 ((b.vertices i).0 e)))
-    (λ i j. option_equal (g.edge i j) (h.edge i j) (λ x e. (b.edges i j x).1 ((a.edges i j x).0 e)) (λ x e. (a.edges i j x).1 ((b.edges i j x).0 e)))
+-- two graphs with the same vertices and edges are one
+pub shown_equal : (V : ℕ → Type 0) (E : ℕ → ℕ → ℕ → Type 0) (g h : Graph) →
+    ((i : ℕ) → (g.has i ≡ true) ↔ V i) → ((i j x : ℕ) → (g.edge i j ≡ Some x) ↔ E i j x) →
+    ((i : ℕ) → (h.has i ≡ true) ↔ V i) → ((i j x : ℕ) → (h.edge i j ≡ Some x) ↔ E i j x) → g ≡ h
+shown_equal V E g h a b c d = graph_equal g h
+    (λ i. bool_equal (g.has i) (h.has i) (λ e. (c i).1 ((a i).0 e)) (λ e. (a i).1 ((c i).0 e)))
+    (λ i j. option_equal (g.edge i j) (h.edge i j) (λ x e. (d i j x).1 ((b i j x).0 e)) (λ x e. (b i j x).1 ((d i j x).0 e)))
 
 suc_pred : (n : ℕ) → 0 < n → n ≡ suc (pred n)
 suc_pred zero l = absurd (omega arith)
@@ -54,7 +56,7 @@ module _ (clock : ℕ → ℕ) (bound top : ℕ) (m : Marks) (s : Sound bound to
   -- a change stamped by then comes before the raise
   before : (x : Mark) → Settled clock r top x → x.stamp ≤ t → Before bound key x
   before x settled h = elim (cases_lt r x.time) [
-    | inl l ↦ absurd (omega (arith, settled (omega arith), raise.rises (suc r) x.time l, raise.next))
+    | inl l ↦ absurd (omega (arith, settled (omega arith), raise.rises (suc r) x.time l, raise.rises 0 r (omega arith), raise.next))
     | inr l ↦ elim (cases_lt x.stamp t) [ inl q ↦ inl (inl q) | inr q ↦ inl (inr (omega arith, omega (arith, settled (omega arith)))) ]
   ]
 
@@ -132,7 +134,7 @@ module _ (clock : ℕ → ℕ) (bound top : ℕ) (m : Marks) (s : Sound bound to
   pub raise_meets : RaiseMeets bound top m key t
   raise_meets = record {
     shows = shows_visible;
-    only = λ g visible. visible_equal m t g (graph_at rows k) visible shows_visible;
+    only = λ g visible. shown_equal _ _ g (graph_at rows k) visible.vertices visible.edges shows_visible.vertices shows_visible.edges;
     finds = λ v h. (v, vertex_there v h, refl);
     finds_none = none_found;
   }

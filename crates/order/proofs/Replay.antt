@@ -1,19 +1,14 @@
 -- The order of placed calls: keys are walked upward, and each call is listed at its key. Nothing is sorted.
-use Rattle.std.proofs.Common.{◌≡◌, ℕ, zero, suc, ◌+◌, ◌<◌, ◌≤◌, ◌⊎◌, List, [], ◌∷◌, Some, None, Option, All, AllPairs, Contains, length, get_or, ◌≢◌, refl, sym, ap, subst, subst₂, inl, inr, arith}
+use Rattle.std.proofs.Common.{◌≡◌, ℕ, zero, suc, ◌+◌, ◌<◌, ◌≤◌, ◌⊎◌, List, [], ◌∷◌, Some, None, Option, All, AllPairs, Contains, length, get_or, ◌≢◌, refl, sym, ◌∙◌, ap, subst, subst₂, inl, inr, arith}
 use Rattle.std.proofs.lemmas.Bool.{cases_eq}
 use Rattle.std.proofs.lemmas.List.Elements.{All-nil, All-cons, All-contains}
 use Rattle.std.proofs.lemmas.List.Kept.{AllPairs-cons}
 use Rattle.questions.specs.Graph.{Graph}
 use Rattle.order.specs.Graph.{after}
 use Rattle.order.specs.Past.{Past, Precedes, fed}
-use Rattle.order.specs.Order.{Standing, standings, Explained, stamping, StampOrder, OneOrder}
+use Rattle.order.specs.Order.{Standing, standings, left_by, Explained, stamping, StampOrder, OneOrder, Ordered}
 use Rattle.order.specs.Placed.{Placed}
-
-contains_first : (b : ℕ) (bs : List ℕ) → Contains (b ∷ bs) b
-contains_first b bs = (0, omega arith, refl)
-
-contains_later : (b c : ℕ) (bs : List ℕ) → Contains bs c → Contains (b ∷ bs) c
-contains_later b c bs (k, l, e) = (suc k, omega arith, e)
+use Rattle.order.proofs.Lists.{contains_first, contains_later}
 
 module _ (h : Past) where
   -- the calls of the standings are those of the order
@@ -75,6 +70,7 @@ module _ {h : Past} (p : Placed h) where
     holds : (b l : ℕ) → p.key b ≡ Some l → k < l → l ≤ k + n → Contains order b
     above : All (Above k) (standings h (p.graph k) order)
     sorted : AllPairs Ahead (standings h (p.graph k) order)
+    leaves : left_by h (p.graph k) order ≡ p.graph (k + n)
 
   -- what is above the next key is above this one
   below : (k : ℕ) (those : List Standing) → All (Above (suc k)) those → All (Above k) those
@@ -93,6 +89,7 @@ module _ {h : Past} (p : Placed h) where
         ];
         above = All-cons (Above k) s _ (k, e, omega arith, refl) (below k _ above);
         sorted = AllPairs-cons Ahead s _ (λ i d l. (k, e, refl, above i d l)) (subst (AllPairs Ahead) same w.sorted);
+        leaves = ap (λ g. left_by h g order) (sym (p.change b k e)) ∙ w.leaves ∙ ap p.graph (omega arith);
       }
 
   -- no call has the next key, and the graph stays
@@ -106,22 +103,29 @@ module _ {h : Past} (p : Placed h) where
         ];
         above = below k _ (subst (All (Above (suc k))) same w.above);
         sorted = subst (AllPairs Ahead) same w.sorted;
+        leaves = ap (λ g. left_by h g order) (sym still) ∙ w.leaves ∙ ap p.graph (omega arith);
       }
 
   walk : (n k : ℕ) → p.bottom ≤ k → k + n ≤ p.bottom + p.span → (order : List ℕ) × Walked k n order
-  walk zero k low high = ([], record { holds = λ b l e x y. absurd (omega arith); above = All-nil (Above k); sorted = λ i j d l u. absurd (omega arith) })
+  walk zero k low high = (
+    [],
+    record {
+      holds = λ b l e x y. absurd (omega arith);
+      above = All-nil (Above k);
+      sorted = λ i j d l u. absurd (omega arith);
+      leaves = ap p.graph (omega arith);
+    },
+  )
   walk (suc n) k low high = go (at_or_free (suc k)) (walk n (suc k) (omega arith) (omega arith))
     where
       go : At (suc k) ⊎ Free (suc k) → (order : List ℕ) × Walked (suc k) n order → (order : List ℕ) × Walked k (suc n) order
       go (inl (b, e)) (order, w) = (b ∷ order, walked_call k n b order e w)
       go (inr free) (order, w) = (order, walked_free k n order (p.still k low (omega arith) free) free w)
 
-  -- what the keys say of the graph at a key holds of the graph that stands before the call
-  ahead_in_stamp_order : (s t : Standing) → Ahead s t → StampOrder (stamping h s) (stamping h t)
-  ahead_in_stamp_order s t (k, e, q, (l, f, less, r)) =
-      subst₂ (λ g i. StampOrder (stamping h (record { call = s.call; before = g })) (stamping h (record { call = t.call; before = i }))) (sym q) (sym r)
-      (p.stamps s.call t.call k l e f less)
+  ahead_in_stamp_order : (s t : Standing) → Ahead s t → StampOrder (stamping h s.call) (stamping h t.call)
+  ahead_in_stamp_order s t (k, e, q, (l, f, less, r)) = p.stamps s.call t.call (suc k) (suc l) e f (omega arith)
 
+  -- what the keys say of the graph at a key holds of the graph that stands before the call
   above_explained : (k : ℕ) (s : Standing) → Above k s → Explained h s
   above_explained k s (l, e, low, q) = subst (λ g. Explained h (record { call = s.call; before = g })) (sym q) (p.explained s.call l e)
 
@@ -146,9 +150,9 @@ module _ {h : Past} (p : Placed h) where
         );
         once = pairs_of_calls h (λ b c. b ≢ c) g order (λ i j d l u. ahead_apart _ _ (w.sorted i j d l u));
         precedence = pairs_of_calls h (λ b c. ¬ (Precedes h c b)) g order (λ i j d l u. ahead_precedence _ _ (w.sorted i j d l u));
-        stamps = λ i j d l u. ahead_in_stamp_order _ _ (w.sorted i j d l u);
+        stamps = pairs_of_calls h (λ b c. StampOrder (stamping h b) (stamping h c)) g order (λ i j d l u. ahead_in_stamp_order _ _ (w.sorted i j d l u));
         explains = λ i d l. above_explained p.bottom _ (w.above i d l);
       }
 
-  pub one_order : (order : List ℕ) × OneOrder h (p.graph p.bottom) order
-  one_order = let (order, w) = walk p.span p.bottom (omega arith) (omega arith) in (order, walked_order order w)
+  pub one_order : Ordered h (p.graph p.bottom) (p.graph (p.bottom + p.span))
+  one_order = let (order, w) = walk p.span p.bottom (omega arith) (omega arith) in (order, walked_order order w, w.leaves)

@@ -1,12 +1,10 @@
 -- The worked case of two calls: their order, and what a run can give for them.
-use Rattle.std.proofs.Common.{◌≡◌, ℕ, true, cond, [], ◌∷◌, Some, None, Option, ◌==◌, All, AllPairs, ◌≢◌, ◌⊎◌, refl, sym, ap, subst, subst₂, inl, inr, arith}
+use Rattle.std.proofs.Common.{◌≡◌, ℕ, true, cond, [], ◌∷◌, Some, None, Option, ◌==◌, ◌⊎◌, refl, sym, subst, subst₂, inl, inr, arith}
 use Rattle.std.proofs.lemmas.Bool.{cases_eq}
 use Rattle.std.proofs.lemmas.Bool.Decides.{nat_tests}
-use Rattle.std.proofs.lemmas.List.Elements.{All-nil, All-cons, All-contains}
-use Rattle.std.proofs.lemmas.List.Kept.{AllPairs-cons}
-use Rattle.order.specs.Graph.{empty, after}
-use Rattle.order.specs.Past.{Finish, Precedes, Belongs, fed}
-use Rattle.order.specs.Order.{Standing, Explained, stamping, StampOrder, OneOrder}
+use Rattle.order.specs.Graph.{empty}
+use Rattle.order.specs.Past.{Belongs}
+use Rattle.order.specs.Order.{OneOrder}
 use Rattle.order.specs.Keys.{Key}
 use Rattle.order.specs.Marks.{Marks, Sound}
 use Rattle.order.specs.Finds.{vertex_born, no_change, VertexThere, adds_vertex, finds_vertex}
@@ -14,6 +12,7 @@ use Rattle.codes.specs.declared.answer.Answer.TheVariants.{VertexAdded, VertexPr
 use Rattle.places.specs.declared.place.Op.TheVariants as op
 use Rattle.order.specs.Marked.{Marking, CallMarked, by_call, Marked, Fresh}
 use Rattle.order.specs.Worked.{two_calls}
+use Rattle.order.proofs.Short.{short_order}
 
 -- a call of the past is one of the two
 one_of_two : (b : ℕ) → Belongs two_calls b → (b ≡ 1) ⊎ (b ≡ 7)
@@ -28,35 +27,12 @@ belongs_add = record { began = refl; done = inl refl }
 belongs_contains : Belongs two_calls 7
 belongs_contains = record { began = refl; done = inl refl }
 
-pairs_of_two : {X : Type 0} (R : X → X → Type 0) (x y : X) → R x y → AllPairs R (x ∷ y ∷ [])
-pairs_of_two R x y h =
-    let last : AllPairs R (y ∷ []) = AllPairs-cons R y [] (All-nil (R y)) (λ i j d l u. absurd (omega arith)) in
-    AllPairs-cons R x (y ∷ []) (All-cons (R x) y [] h (All-nil (R x))) last
-
-abbrev finish_time : Option Finish → ℕ
-finish_time None = 0
-finish_time (Some f) = f.time
-
-abbrev add_standing : Standing
-add_standing = record { call = 1; before = empty }
-
-abbrev contains_standing : Standing
-contains_standing = record { call = 7; before = after empty (fed two_calls 1) }
-
-all_of_two : {X : Type 0} (P : X → Type 0) (x y : X) → P x → P y → All P (x ∷ y ∷ [])
-all_of_two P x y p q = All-cons P x (y ∷ []) p (All-cons P y [] q (All-nil P))
-
 pub order : OneOrder two_calls empty (1 ∷ 7 ∷ [])
-order = record {
-  members = λ b. (
-    λ c. All-contains (Belongs two_calls) (1 ∷ 7 ∷ []) b (all_of_two (Belongs two_calls) 1 7 belongs_add belongs_contains) c,
-    λ h. elim (one_of_two b h) [ inl q ↦ (0, omega arith, sym q) | inr q ↦ (1, omega arith, sym q) ],
-  );
-  once = pairs_of_two (λ b c. b ≢ c) 1 7 (λ e. omega arith);
-  precedence = pairs_of_two (λ b c. ¬ (Precedes two_calls c b)) 1 7 (λ q. omega (arith, ap finish_time q.1, q.2));
-  stamps = pairs_of_two (λ s t. StampOrder (stamping two_calls s) (stamping two_calls t)) add_standing contains_standing tt;
-  explains = all_of_two (Explained two_calls) add_standing contains_standing (record { answer = refl; page = tt }) (record { answer = refl; page = tt });
-}
+order = short_order two_calls empty (1 ∷ 7 ∷ [])
+    (λ b h. elim (one_of_two b h) [ inl q ↦ (0, omega arith, sym q) | inr q ↦ (1, omega arith, sym q) ])
+    (belongs_add, (belongs_contains, tt))
+    (((refl, omega arith, tt), tt), (tt, tt))
+    (record { answer = refl; page = tt }, (record { answer = refl; page = tt }, tt))
 
 -- one vertex row, of key 0, which became pending at time 3 and has stamp 1
 abbrev rows : Marks
@@ -140,7 +116,8 @@ add_marked = record {
   low = omega arith;
   high = omega arith;
   fits = record { time = omega arith; stamp = omega arith; since = inl (omega arith); fair = omega arith };
-  stamp = λ n. refl;
+  stamp = λ e. refl;
+  counts = λ e. absurd (grind arith);
   raise = λ t e. absurd (grind arith);
   answer = VertexAdded;
   finds = adds_vertex 0 (record { row = omega arith; stamped = omega arith; key = refl });
@@ -156,7 +133,8 @@ contains_marked = record {
   low = omega arith;
   high = omega arith;
   fits = record { time = omega arith; stamp = omega arith; since = inl (omega arith); fair = omega arith };
-  stamp = λ n. absurd (n refl);
+  stamp = λ e. absurd (grind arith);
+  counts = λ e. absurd (grind arith);
   raise = λ t e. absurd (grind arith);
   answer = VertexPresent;
   finds = finds_vertex op.Contains 0 true (0, row_there, refl) refl;
@@ -182,4 +160,4 @@ marked = record {
 }
 
 pub fresh : Fresh run
-fresh = record { vertices = λ r t h. grind (arith, nat_tests); edges = λ e t h. omega arith }
+fresh = record { vertices = λ r h. grind (arith, nat_tests); edges = λ e h. omega arith }

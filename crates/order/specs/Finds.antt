@@ -19,6 +19,11 @@ pub data RowChange : Type 0 where
   edge_born : (e : ℕ) → RowChange
   edge_ends : (e : ℕ) → RowChange
 
+-- there is a change
+abbrev pub makes_change : RowChange → Bool
+makes_change no_change = false
+makes_change v = true
+
 -- the stamp and the time of a key
 abbrev pub mark_of : Key → Mark
 mark_of k = record { stamp = k.stamp; time = k.time }

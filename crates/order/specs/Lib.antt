@@ -1,6 +1,7 @@
 pub mod Graph
 pub mod Past
 pub mod Order
+pub mod Stands
 pub mod Placed
 pub mod Keys
 pub mod Marks
@@ -8,5 +9,10 @@ pub mod Rows
 pub mod Finds
 pub mod Marked
 pub mod Raises
+pub mod Ends
+pub mod Clean
 pub mod Seen
+pub mod Joined
 pub mod Worked
+pub mod Started
+pub mod Mistakes

@@ -1,14 +1,14 @@
 -- What a run owes, so that one order explains its calls: a key for each call, the marks of the rows, and what each call finds at its key.
-use Rattle.std.specs.Prelude.{◌≡◌, ℕ, suc, ◌-◌, ◌*◌, ◌<◌, ◌≤◌, true, ◌≢◌, List, Some, None, Option, IfSome}
+use Rattle.std.specs.Prelude.{◌≡◌, ℕ, suc, ◌-◌, ◌*◌, ◌<◌, ◌≤◌, true, not, Some, None, Option, IfSome}
 use Rattle.codes.specs.declared.answer.Answer.{Answer}
 use Rattle.questions.specs.Graph.{Graph}
 use Rattle.order.specs.Graph.{Feed, empty, Shows}
 use Rattle.order.specs.Past.{Finish, Past, Belongs, fed}
-use Rattle.order.specs.Order.{OneOrder}
+use Rattle.order.specs.Order.{Ordered}
 use Rattle.order.specs.Keys.{Key, Bounded, number, Fits}
-use Rattle.order.specs.Marks.{Mark, Marks, Sound, change_key, edge_effect, edge_key}
+use Rattle.order.specs.Marks.{Mark, Old, Marks, Sound, change_key, edge_effect, edge_key}
 use Rattle.order.specs.Rows.{graph_at, rows_of, graph_before}
-use Rattle.order.specs.Finds.{RowChange, no_change, vertex_born, vertex_ends, edge_born, edge_ends, Finds}
+use Rattle.order.specs.Finds.{RowChange, vertex_born, vertex_ends, edge_born, edge_ends, makes_change, Finds}
 
 -- what a run up to a moment gives besides its past
 pub record Marking : Type 0 where
@@ -36,6 +36,7 @@ pub record RaiseKey (run : Marking) (k : Key) (t : ℕ) : Type 0 where
   pub stamp : k.stamp ≡ t
   pub part : k.part ≡ run.bound
   pub raised : run.clock (suc k.time) ≡ suc t
+  pub high : t < run.top
 
 -- a call that is fed as f was finished with the answer a, and its page shows what the graph g gives
 pub record Told (g : Graph) (f : Feed) (a : Answer) (e : Finish) : Type 0 where
@@ -54,8 +55,9 @@ pub record CallMarked (h : Past) (run : Marking) (b : ℕ) (k : Key) : Type 0 wh
   pub high : k.stamp ≤ run.top
   -- its key is of a moment between its begin and its end
   pub fits : Fits run.clock k b (end_of run.now (h.finish b))
-  -- a change with an effect bears the stamp of the key
-  pub stamp : run.change b ≢ no_change → h.stamp b ≡ Some k.stamp
+  -- a change with an effect bears the stamp of the key; that of an unfinished call has an effect unless a vertex of it ended with a lower stamp
+  pub stamp : makes_change (run.change b) ≡ true → h.stamp b ≡ Some k.stamp
+  pub counts : h.finish b ≡ None → makes_change (run.change b) ≡ not (h.lower_end b)
   -- if it raised the clock, its key is that of the raise
   pub raise : (t : ℕ) → h.raise b ≡ Some t → RaiseKey run k t
   -- what it finds at its key
@@ -66,7 +68,7 @@ pub record CallMarked (h : Past) (run : Marking) (b : ℕ) (k : Key) : Type 0 wh
 
 -- the change x is from before the start, or a call that stands at the key k makes it
 pub data Made (run : Marking) (x : Mark) (k : Key) (v : RowChange) : Type 0 where
-  before_start : x.time ≡ 0 → x.stamp ≤ run.clock 0 → Made run x k v
+  before_start : Old run.clock x → Made run x k v
   by_call : (b : ℕ) → run.key b ≡ Some k → run.change b ≡ v → Made run x k v
 
 -- what is owed
@@ -100,15 +102,23 @@ start_key run = record { stamp = run.clock 0; time = 0; part = 2 * run.bound - 1
 abbrev pub start_graph : Marking → Graph
 start_graph run = graph_at (rows_of run.bound run.top run.marks) (number run.bound (start_key run))
 
--- one order explains the calls, from the graph at the start on
+-- a key above those of all calls
+abbrev pub end_key : Marking → Key
+end_key run = record { stamp = suc run.top; time = 0; part = 0 }
+
+-- the graph after all calls
+abbrev pub end_graph : Marking → Graph
+end_graph run = graph_at (rows_of run.bound run.top run.marks) (number run.bound (end_key run))
+
+-- one order explains the calls, from the graph at the start to the graph after all calls
 abbrev pub MarkedStands : Type 0
-MarkedStands = (h : Past) (run : Marking) → Marked h run → (order : List ℕ) × OneOrder h (start_graph run) order
+MarkedStands = (h : Past) (run : Marking) → Marked h run → Ordered h (start_graph run) (end_graph run)
 
 -- no row is from before the start
 pub record Fresh (run : Marking) : Type 0 where
-  pub vertices : (r : ℕ) → (run.marks.vertex_ins r).time ≡ 0 → ¬ ((run.marks.vertex_ins r).stamp ≤ run.clock 0)
-  pub edges : (e : ℕ) → (run.marks.edge_ins e).time ≡ 0 → ¬ ((run.marks.edge_ins e).stamp ≤ run.clock 0)
+  pub vertices : (r : ℕ) → ¬ (Old run.clock (run.marks.vertex_ins r))
+  pub edges : (e : ℕ) → ¬ (Old run.clock (run.marks.edge_ins e))
 
 -- then one order explains the calls from the empty graph on
 abbrev pub FreshStands : Type 0
-FreshStands = (h : Past) (run : Marking) → Marked h run → Fresh run → (order : List ℕ) × OneOrder h empty order
+FreshStands = (h : Past) (run : Marking) → Marked h run → Fresh run → Ordered h empty (end_graph run)

@@ -12,6 +12,17 @@ pub record Mark : Type 0 where
 abbrev pub Earlier : Mark → Mark → Type 0
 Earlier x y = (x.stamp < y.stamp) ⊎ ((x.stamp ≡ y.stamp) × (x.time < y.time))
 
+-- a change from before the start of a run with this clock has the time 0, and a stamp of the start or a lower one
+abbrev pub Old : (ℕ → ℕ) → Mark → Type 0
+Old clock x = (x.time ≡ 0) × (x.stamp ≤ clock 0)
+
+-- the marks of ins of the rows that are there at the start: vertex rows come before the edge rows, which bear the clock at the start
+abbrev pub old_vertex : Mark
+old_vertex = record { stamp = 0; time = 0 }
+
+abbrev pub old_edge : ℕ → Mark
+old_edge first = record { stamp = first; time = 0 }
+
 -- two changes with one stamp did not become pending at one time
 abbrev pub Distinct : Mark → Mark → Type 0
 Distinct x y = x.stamp ≡ y.stamp → x.time ≢ y.time

@@ -1,5 +1,5 @@
 -- What a run up to a moment shows of its calls.
-use Rattle.std.specs.Prelude.{◌≡◌, ℕ, ◌<◌, ◌⊎◌, Some, None, Option, IsSome}
+use Rattle.std.specs.Prelude.{◌≡◌, ℕ, ◌<◌, Bool, ◌⊎◌, Some, None, Option, IsSome}
 use Rattle.codes.specs.declared.answer.Answer.{Answer}
 use Rattle.codes.specs.declared.answer.Answer.TheVariants.{RowsSpent, ClockSpent}
 use Rattle.places.specs.declared.place.Call.{Call}
@@ -22,6 +22,8 @@ pub record Past : Type 0 where
   pub stamp : ℕ → Option ℕ
   -- the number from which it raised the clock, if it raised it
   pub raise : ℕ → Option ℕ
+  -- whether a vertex row to which the row of its change is bound has ended with a lower stamp than that of the change
+  pub lower_end : ℕ → Bool
 
 -- the call that began at b was finished before the one that began at c began
 abbrev pub Precedes : Past → ℕ → ℕ → Type 0

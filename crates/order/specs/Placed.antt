@@ -1,9 +1,9 @@
 -- Keys that put the calls of a run in order, and the graph at each key.
-use Rattle.std.specs.Prelude.{◌≡◌, ℕ, suc, ◌+◌, ◌<◌, ◌≤◌, ◌≢◌, List, Some, Option}
+use Rattle.std.specs.Prelude.{◌≡◌, ℕ, suc, ◌+◌, ◌<◌, ◌≤◌, ◌≢◌, Some, Option}
 use Rattle.questions.specs.Graph.{Graph}
 use Rattle.order.specs.Graph.{after}
 use Rattle.order.specs.Past.{Past, Precedes, Belongs, fed}
-use Rattle.order.specs.Order.{Standing, Explained, stamping, StampOrder, OneOrder}
+use Rattle.order.specs.Order.{Standing, Explained, stamping, StampOrder, Ordered}
 
 -- the call b at the key after k
 abbrev pub next_key : (ℕ → Graph) → ℕ → ℕ → Standing
@@ -34,9 +34,8 @@ pub record Placed (h : Past) : Type 0 where
   -- the graph just before its key gives a finished call its answer and its page
   pub explained : (b k : ℕ) → key b ≡ Some (suc k) → Explained h (next_key graph b k)
   -- changes and raises have keys by their stamps
-  pub stamps : (b c k l : ℕ) → key b ≡ Some (suc k) → key c ≡ Some (suc l) → k < l →
-      StampOrder (stamping h (next_key graph b k)) (stamping h (next_key graph c l))
+  pub stamps : (b c k l : ℕ) → key b ≡ Some k → key c ≡ Some l → k < l → StampOrder (stamping h b) (stamping h c)
 
--- calls that are placed have one order that explains them
+-- calls that are placed have one order that explains them, from the graph below all keys to the graph at the greatest
 abbrev pub PlacedStands : Type 0
-PlacedStands = (h : Past) (p : Placed h) → (order : List ℕ) × OneOrder h (p.graph p.bottom) order
+PlacedStands = (h : Past) (p : Placed h) → Ordered h (p.graph p.bottom) (p.graph (p.bottom + p.span))

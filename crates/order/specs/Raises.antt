@@ -1,8 +1,8 @@
 -- What a snapshot or reach meets: the graph just before its raise of the clock, by the stamps of the rows.
-use Rattle.std.specs.Prelude.{◌≡◌, ℕ, suc, ◌<◌, ◌≤◌, true, false, ◌≢◌, ◌↔◌, Some}
+use Rattle.std.specs.Prelude.{◌≡◌, ℕ, suc, ◌<◌, ◌≤◌, true, false, ◌≢◌, ◌⊎◌, ◌↔◌, Some}
 use Rattle.questions.specs.Graph.{Graph}
 use Rattle.order.specs.Keys.{Key}
-use Rattle.order.specs.Marks.{Mark, Marks, Sound, change_key}
+use Rattle.order.specs.Marks.{Mark, Old, Marks, Sound, change_key}
 use Rattle.order.specs.Rows.{graph_before}
 use Rattle.order.specs.Finds.{VertexFound}
 
@@ -12,9 +12,10 @@ pub record Raise (clock : ℕ → ℕ) (r t : ℕ) : Type 0 where
   pub from : clock r ≡ t
   pub next : clock (suc r) ≡ suc t
 
--- a change with a stamp bears one that the clock had when it became pending, or later; it did not become pending at the raise
+-- a change with a stamp is from before the start, or bears a stamp that the clock had when it became pending, or later; it did not become pending at
+-- the raise
 abbrev pub Settled : (ℕ → ℕ) → ℕ → ℕ → Mark → Type 0
-Settled clock r top x = x.stamp ≤ top → (clock x.time ≤ x.stamp) × (x.time ≢ r)
+Settled clock r top x = x.stamp ≤ top → (Old clock x ⊎ (clock x.time ≤ x.stamp)) × (x.time ≢ r)
 
 -- this holds of all changes
 pub record AllSettled (clock : ℕ → ℕ) (r top : ℕ) (m : Marks) : Type 0 where

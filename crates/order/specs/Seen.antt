@@ -43,13 +43,14 @@ abbrev pub call_begun : Sight → Option Call
 call_begun (begins w c) = Some c
 call_begun s = None
 
--- the past up to now, with the stamps of the changes and the numbers of the raises
-abbrev pub past_of : (ℕ → Sight) → ℕ → (ℕ → Option ℕ) → (ℕ → Option ℕ) → Past
-past_of seen now stamp raise = record {
+-- the past up to now, with the stamps of the changes, the numbers of the raises, and the changes with a lower end
+abbrev pub past_of : (ℕ → Sight) → ℕ → (ℕ → Option ℕ) → (ℕ → Option ℕ) → (ℕ → Bool) → Past
+past_of seen now stamp raise lower_end = record {
   begun = λ b. cond (nat_lt b now) (call_begun (seen b)) None;
   finish = finish_by seen now;
   stamp = stamp;
   raise = raise;
+  lower_end = lower_end;
 }
 
 -- a worker begins a call only while it has none open

@@ -1,41 +1,90 @@
 -- Whether a row is linked can be told.
-use Rattle.std.proofs.Common.{◌≡◌, ℕ, ◌+◌, ◌-◌, ◌*◌, ◌<◌, ◌≤◌, ◌⊎◌, Some, ap, subst, inl, inr, ⊎_elim, arith}
-use Rattle.std.proofs.lemmas.Bool.{lt-ltb, cases_lt}
+use Rattle.std.proofs.Common.{◌≡◌, ℕ, zero, suc, ◌<◌, ◌≤◌, ◌⊎◌, sym, refl, subst, inl, inr, ⊎_elim, arith}
+use Rattle.std.proofs.lemmas.Bool.{cases_lt, cases_eq}
 use Rattle.layout.specs.declared.names.Kind.{Kind}
-use Rattle.layout.specs.Laws.{Owner}
-use Rattle.layout.specs.Rows.{rows_each, rows_all, row_at}
-use Rattle.layout.proofs.Owners.{owner, own_row, one_owner}
-use Rattle.stepper.specs.States.{State}
-use Rattle.stepper.specs.Turns.{worker_at}
-use Rattle.stepper.specs.Workers.{linked_of}
-use Rattle.laws.specs.Fits.{Linked}
-use Rattle.runs.proofs.Links.{linked_is_row, row_is}
+use Rattle.layout.specs.declared.names.Kind.TheVariants.{Vertex, Edge}
+use Rattle.layout.specs.declared.names.Head.{Head}
+use Rattle.layout.specs.declared.names.Head.TheVariants as head
+use Rattle.layout.specs.declared.names.Cell.TheVariants as cell
+use Rattle.layout.specs.Layout.{Named}
+use Rattle.places.specs.declared.place.Change.{Change}
+use Rattle.places.specs.declared.place.Change.TheVariants as change
+use Rattle.places.specs.Touches.{head_kind, change_head}
+use Rattle.laws.specs.Fits.{FitChange}
+use Rattle.laws.specs.Sound.{RunsSound, RunsKeepLaws}
+use Rattle.laws.specs.Stamps.{RunsStamp}
+use Rattle.runs.specs.Runs.{Run}
+use Rattle.runs.specs.Views.{head_at, LinkedAt}
+use Rattle.runs.specs.Steps.{Links, RunsStep}
+use Rattle.runs.specs.Times.{RunsLast}
+use Rattle.runs.specs.Reasons.{RunsKnow}
+use Rattle.runs.proofs.Links.{linked_is_row}
+use Rattle.runs.proofs.Events.{link_fits, key_in}
+use Rattle.runs.proofs.EdgeEvents.{head_is_linked}
 
-module _ (s : State) (k : Kind) (r : ℕ) where
-  abbrev size : ℕ
-  size = rows_each s.sizes k
+-- some number below n has a property, or none has
+abbrev Below : ℕ → (ℕ → Type 0) → Type 0
+Below n P = (i : ℕ) × (i < n) × P i
 
-  -- a row by its place among its owner's rows
-  owned_row : (o : Owner s.sizes k r) → row_at s.sizes k o.worker (r - 1 - o.worker * rows_each s.sizes k) ≡ Some r
-  owned_row o =
-      let n : ℕ = r - 1 - o.worker * rows_each s.sizes k in
-      let small : r - 1 - o.worker * rows_each s.sizes k < rows_each s.sizes k = omega (arith, o.owns.from, o.owns.to) in
-      let same : o.worker * rows_each s.sizes k + (r - 1 - o.worker * rows_each s.sizes k) + 1 ≡ r = omega (arith, o.owns.from) in
-      rw (lt-ltb o.worker s.sizes.workers o.within, lt-ltb (r - 1 - o.worker * rows_each s.sizes k) (rows_each s.sizes k) small) (ap Some same)
+below_or : (P : ℕ → Type 0) → ((i : ℕ) → P i ⊎ ¬ (P i)) → (n : ℕ) → Below n P ⊎ ¬ (Below n P)
+below_or P d zero = inr (λ x. omega (arith, x.1))
+below_or P d (suc n) =
+    ⊎_elim (λ (x : P n). inl (n, omega arith, x))
+    (λ (x : ¬ (P n)). ⊎_elim (λ (y : Below n P). inl (y.0, omega (arith, y.1), y.2))
+    (λ (y : ¬ (Below n P)). inr (λ z. ⊎_elim (λ (a : z.0 < n). y (z.0, a, z.2)) (λ (a : n ≤ z.0). let e : z.0 ≡ n = omega (arith, z.1) in x (subst P e z.2)) (cases_lt z.0 n)))
+    (below_or P d n))
+    (d n)
 
-  owned_or : Owner s.sizes k r → Linked s k r ⊎ ¬ (Linked s k r)
-  owned_or o =
-      ⊎_elim
-      (λ (l : r - 1 - o.worker * rows_each s.sizes k < linked_of (worker_at s o.worker) k). inl (record { owner = o.worker; place = r - 1 - o.worker * rows_each s.sizes k; before = l; is = owned_row o }))
-      (λ (l : linked_of (worker_at s o.worker) k ≤ r - 1 - o.worker * rows_each s.sizes k). inr (λ x.
-      let same : x.owner ≡ o.worker = one_owner s.sizes k x.owner o.worker r (own_row s.sizes k x.owner x.place r x.is).1 o.owns in
-      let here : o.worker * rows_each s.sizes k + x.place + 1 ≡ r = subst (λ w. w * rows_each s.sizes k + x.place + 1 ≡ r) same (row_is s k x.owner x.place r x.is) in
-      let before : x.place < linked_of (worker_at s o.worker) k = subst (λ w. x.place < linked_of (worker_at s w) k) same x.before in
-      omega arith))
-      (cases_lt (r - 1 - o.worker * rows_each s.sizes k) (linked_of (worker_at s o.worker) k))
+module _ (R : Run) (k : ℕ) (r : ℕ) where
+  -- a row is the row of a head, or of none
+  abbrev IsHead : Kind → Type 0
+  IsHead c = (h : Head) × Named R.sizes (cell.Head h) × (head_kind h ≡ c) × (head_at R k h ≡ r)
 
-  pub linked_or : Linked s k r ⊎ ¬ (Linked s k r)
-  linked_or =
-      ⊎_elim (λ (z : r < 1). inr (λ l. omega (arith, (linked_is_row s k r l).0)))
-      (λ (z : 1 ≤ r). ⊎_elim (λ (y : rows_all s.sizes k < r). inr (λ l. omega (arith, (linked_is_row s k r l).1))) (λ (y : r ≤ rows_all s.sizes k). owned_or (owner s.sizes k r (z, y))) (cases_lt (rows_all s.sizes k) r))
-      (cases_lt r 1)
+  abbrev At : ℕ → Type 0
+  At i = head_at R k (head.Vertex i) ≡ r
+
+  abbrev Pairs : ℕ → Type 0
+  Pairs i = Below R.sizes.keys (λ j. head_at R k (head.Edge i j) ≡ r)
+
+  vertex_at : (h : Head) → Named R.sizes (cell.Head h) → head_kind h ≡ Vertex → head_at R k h ≡ r → Below R.sizes.keys At
+  vertex_at (head.Vertex i) n e x = (i, n, x)
+  vertex_at (head.Edge i j) n e x = absurd cc
+
+  edge_at : (h : Head) → Named R.sizes (cell.Head h) → head_kind h ≡ Edge → head_at R k h ≡ r → Below R.sizes.keys Pairs
+  edge_at (head.Vertex i) n e x = absurd cc
+  edge_at (head.Edge i j) n e x = (i, n.0, (j, n.1, x))
+
+  is_head_or : (c : Kind) → IsHead c ⊎ ¬ (IsHead c)
+  is_head_or Vertex =
+      ⊎_elim (λ (x : Below R.sizes.keys At). inl (head.Vertex x.0, x.1, refl, x.2)) (λ (x : ¬ (Below R.sizes.keys At)). inr (λ y. x (vertex_at y.0 y.1 y.2 y.3)))
+      (below_or At (λ i. cases_eq (head_at R k (head.Vertex i)) r) R.sizes.keys)
+  is_head_or Edge =
+      ⊎_elim (λ (x : Below R.sizes.keys Pairs). inl (head.Edge x.0 x.2.0, (x.1, x.2.1), refl, x.2.2)) (λ (x : ¬ (Below R.sizes.keys Pairs)). inr (λ y. x (edge_at y.0 y.1 y.2 y.3)))
+      (below_or Pairs (λ i. below_or (λ j. head_at R k (head.Edge i j) ≡ r) (λ j. cases_eq (head_at R k (head.Edge i j)) r) R.sizes.keys) R.sizes.keys)
+
+module _ (sound : RunsSound) (keep : RunsKeepLaws) (stamp : RunsStamp) (step : RunsStep) (last : RunsLast) (know : RunsKnow) (R : Run) where
+  -- the row of a head is linked
+  at_head_linked : (k : ℕ) (c : Kind) (r : ℕ) → 0 < r → IsHead R k r c → LinkedAt R k c r
+  at_head_linked k c r l x =
+      subst (λ (u : Kind). LinkedAt R k u r) x.2 (subst (LinkedAt R k (head_kind x.0)) x.3 (head_is_linked sound keep stamp step last know R k x.0 x.1 (subst (λ n. 0 < n) (sym x.3) l)))
+
+  change_in : (k : ℕ) (d : Change) → FitChange (R.state k) d → Named R.sizes (cell.Head (change_head d))
+  change_in k (change.Vertex i) f = key_in sound keep stamp step last know R k i f
+  change_in k (change.Edge b) f = (key_in sound keep stamp step last know R k b.pair.from f.keys.0, key_in sound keep stamp step last know R k b.pair.to f.keys.1)
+
+  new_is_head : (k : ℕ) (c : Kind) (r : ℕ) → Links R k c r → IsHead R (suc k) r c
+  new_is_head k c r m = (change_head m.change, change_in k m.change (link_fits sound keep stamp step last know R m.step.turn), m.kind, m.step.head)
+
+  rows_or : (k : ℕ) (c : Kind) (r : ℕ) → 0 < r → LinkedAt R k c r ⊎ ¬ (LinkedAt R k c r)
+  rows_or zero c r l =
+      ⊎_elim (λ (x : IsHead R zero r c). inl (at_head_linked zero c r l x)) (λ (x : ¬ (IsHead R zero r c)). inr (λ o. let y = (last R).old_row c r o in x (y.head, y.named, y.kind, y.is))) (is_head_or R zero r c)
+  rows_or (suc k) c r l =
+      ⊎_elim (λ (o : LinkedAt R k c r). inl ((step R k).linked c r o))
+      (λ (n : ¬ (LinkedAt R k c r)).
+      ⊎_elim (λ (x : IsHead R (suc k) r c). inl (at_head_linked (suc k) c r l x))
+      (λ (x : ¬ (IsHead R (suc k) r c)). inr (λ o. ⊎_elim (λ (y : LinkedAt R k c r). n y) (λ (y : Links R k c r). x (new_is_head k c r y)) ((step R k).news c r o)))
+      (is_head_or R (suc k) r c))
+      (rows_or k c r l)
+
+  pub linked_or : (k : ℕ) (c : Kind) (r : ℕ) → LinkedAt R k c r ⊎ ¬ (LinkedAt R k c r)
+  linked_or k c r = ⊎_elim (λ (l : 0 < r). rows_or k c r l) (λ (l : r ≤ 0). inr (λ o. omega (arith, (linked_is_row (R.state k) c r o).0))) (cases_lt 0 r)

@@ -1,5 +1,5 @@
 -- What a call finds of an edge that it saw.
-use Rattle.std.proofs.Common.{◌≡◌, ℕ, suc, ◌<◌, ◌≤◌, Ok, sym, ap, ◌∙◌, subst, inl, ⊎_elim, arith}
+use Rattle.std.proofs.Common.{◌≡◌, ℕ, suc, ◌<◌, ◌≤◌, Ok, sym, ap, ◌∙◌, subst, inl, inr, ⊎_elim, arith}
 use Rattle.layout.specs.declared.names.Kind.{Kind}
 use Rattle.layout.specs.declared.names.Kind.TheVariants.{Vertex, Edge}
 use Rattle.layout.specs.declared.names.Field.TheVariants.{Ins, Del}
@@ -24,10 +24,10 @@ use Rattle.runs.specs.VertexFinds.{turn_key, MadeNone}
 use Rattle.runs.specs.EdgeFinds.{EdgeHere, RunsFindEdges}
 use Rattle.runs.proofs.Links.{linked_is_row}
 use Rattle.runs.proofs.Steps.{sizes_at}
-use Rattle.runs.proofs.Events.{stamp_kept, clock_later, linked_later, living_link}
-use Rattle.runs.proofs.Births.{End, birth, ended_or, birth_by, ends_after, living_birth}
-use Rattle.runs.proofs.MarkLaws.{earlier}
-use Rattle.runs.proofs.VertexFinds.{now_mark, other_time}
+use Rattle.runs.proofs.Events.{stamp_kept, clock_later, linked_later}
+use Rattle.runs.proofs.Births.{earlier, End, birth, ended_or, birth_by, ends_after, living_birth}
+use Rattle.runs.proofs.MarkLaws.{earlier_on}
+use Rattle.runs.proofs.VertexFinds.{birth_tells, living_tells, now_mark, other_time}
 
 module _ (sound : RunsSound) (keep : RunsKeepLaws) (stamps : RunsStamp) (step : RunsStep) (last : RunsLast) (know : RunsKnow) (events : RunsEvents) (R : Run) (N : ℕ) (m : Marks) (tell : MarksTell R N m) (ok : Sound (time_bound N) (clock_at R N) m) where
   abbrev at : ℕ → Mark
@@ -51,15 +51,14 @@ module _ (sound : RunsSound) (keep : RunsKeepLaws) (stamps : RunsStamp) (step : 
   vertex_there : (t u i s v : ℕ) → i < R.sizes.keys → u ≤ t → Living R u i s → t < v → v ≤ N → mark_at R v Vertex Del s ≡ NotEnded → VertexThere (time_bound N) m (turn_key R N t) s × (m.key_of s ≡ i)
   vertex_there t u i s v k a l c d e =
       let h = living_birth sound keep stamps step last know events R N u i s k (omega arith) l in
-      let p = living_link sound keep stamps step last know R k l in
       let rises = clock_later sound keep stamps step last know R u t a in
-      let is = tell.born Vertex s h.0.time h.0.stamp h.0.linked h.0.linking h.0.is in (
+      let is = birth_tells sound keep stamps step last know events R N m tell Vertex s h.0 in (
         record {
           row = omega (arith, tell.vertices, row_in Vertex u s l.linked);
-          born = inl (subst (λ x. Earlier x (at t)) (sym is) (earlier h.0.stamp h.0.time (clock_at R t) t (omega (arith, h.2)) (omega (arith, h.1))));
+          born = inl (subst (λ x. Earlier x (at t)) (sym is) (earlier_on (record { stamp = h.0.stamp; time = h.0.time }) (clock_at R u) u (clock_at R t) t h.1 rises a));
           ends = lives_on t v s c d e;
         },
-        tell.key p.time p.held.0 i s p.held.1 (omega (arith, p.before)),
+        living_tells sound keep stamps step last know events R N m tell u i s k (omega arith) l,
       )
 
   -- an edge row that was seen not ended is there at that turn
@@ -67,10 +66,10 @@ module _ (sound : RunsSound) (keep : RunsKeepLaws) (stamps : RunsStamp) (step : 
   edge_there b t e none u l k s a =
       let on = linked_later sound keep stamps step last know R t N Edge e (omega arith) k in
       let h = birth sound keep stamps step last know events R N Edge e s.number on (stamp_kept sound keep stamps step last know R t N Edge Ins e s.number (omega arith) k s.is) in
-      let x = birth_by sound keep stamps step last know events R N Edge e h t (omega arith) k s in
+      let x = birth_by sound keep stamps step last know events R N Edge e h t (omega arith) (inr (omega (arith, u.after))) k s in
       record {
         row = omega (arith, tell.edges, row_in Edge t e k);
-        born = inl (subst (λ y. Earlier y (at t)) (sym (tell.born Edge e h.time h.stamp h.linked h.linking h.is)) (earlier h.stamp h.time (clock_at R t) t x.1 x.0));
+        born = inl (subst (λ y. Earlier y (at t)) (sym (birth_tells sound keep stamps step last know events R N m tell Edge e h)) x);
         ends = ⊎_elim
             (λ (g : End sound keep stamps step last know events R N Edge e).
             let z = ends_after sound keep stamps step last know events R N Edge e g t a in

@@ -1,5 +1,5 @@
 -- What a call finds of an edge that it did not see.
-use Rattle.std.proofs.Common.{◌≡◌, ℕ, suc, ◌<◌, ◌≤◌, false, ◌⊎◌, Err, sym, refl, ap, ap₂, ◌∙◌, subst, inl, inr, ⊎_elim, arith}
+use Rattle.std.proofs.Common.{◌≡◌, ℕ, ◌<◌, ◌≤◌, false, ◌⊎◌, Err, sym, refl, ap, ap₂, ◌∙◌, subst, inl, inr, ⊎_elim, arith}
 use Rattle.std.proofs.lemmas.Bool.{cases_lt, cases_eq}
 use Rattle.layout.specs.declared.names.Kind.TheVariants.{Vertex, Edge}
 use Rattle.layout.specs.declared.names.Field.TheVariants.{Ins, Del}
@@ -7,7 +7,6 @@ use Rattle.layout.specs.declared.names.Head.TheVariants as head
 use Rattle.places.specs.declared.mark.Mark.TheVariants.{NotEnded}
 use Rattle.places.specs.declared.place.Op.{Op}
 use Rattle.places.specs.declared.place.Bound.{Bound}
-use Rattle.places.specs.declared.place.Change.TheVariants as change
 use Rattle.laws.specs.Sound.{RunsSound, RunsKeepLaws}
 use Rattle.laws.specs.Stamps.{RunsStamp}
 use Rattle.order.specs.Keys.{Key}
@@ -17,18 +16,18 @@ use Rattle.runs.specs.Runs.{Run}
 use Rattle.runs.specs.Views.{clock_at, head_at, mark_at, LinkedAt}
 use Rattle.runs.specs.Steps.{RunsStep}
 use Rattle.runs.specs.Times.{RunsLast}
-use Rattle.runs.specs.Known.{TurnOf, Stamped, Dead, Living, Has, Shut, Over, BoundTo, Firm, LinkEvent}
+use Rattle.runs.specs.Known.{TurnOf, Stamped, Dead, Living, Has, Shut, Over, BoundTo, Firm}
 use Rattle.runs.specs.Reasons.{RunsKnow}
 use Rattle.runs.specs.Events.{RunsEvents}
 use Rattle.runs.specs.Marking.{time_bound, MarksTell}
 use Rattle.runs.specs.VertexFinds.{turn_key, after_key, MadeNone}
 use Rattle.runs.specs.EdgeMisses.{KeyBefore, KeyBefore.at_turn, KeyBefore.after_end, EdgeMissed, RunsMissEdges}
 use Rattle.runs.proofs.Links.{linked_is_row}
-use Rattle.runs.proofs.Events.{stamp_kept, clock_later, linked_later, linked_from, dead_kept, dead_not, living_link, living_key, edge_keys}
-use Rattle.runs.proofs.EdgeEvents.{head_is_linked, binds_of, Still, Still.heads, Still.ends, Still.lone, still, edge_bound}
-use Rattle.runs.proofs.Births.{Birth, End, birth, born_or, ended_or, birth_now, end_now, ended_by, ends_after, living_birth, edge_change_of}
-use Rattle.runs.proofs.MarkLaws.{earlier}
-use Rattle.runs.proofs.VertexFinds.{now_mark, other_time}
+use Rattle.runs.proofs.Events.{stamp_kept, clock_later, linked_later, dead_kept, dead_not, living_key}
+use Rattle.runs.proofs.EdgeEvents.{head_is_linked, Still, Still.heads, Still.ends, Still.lone, still}
+use Rattle.runs.proofs.Births.{earlier, Birth, End, birth, born_or, ended_or, link_now, link_way, end_now, ended_by, ends_after, living_birth}
+use Rattle.runs.proofs.MarkLaws.{earlier_on, Stood, stood, edge_over}
+use Rattle.runs.proofs.VertexFinds.{birth_tells, living_tells, now_mark, other_time}
 use Rattle.runs.proofs.EdgeFinds.{row_in}
 
 module _ (sound : RunsSound) (keep : RunsKeepLaws) (stamps : RunsStamp) (step : RunsStep) (last : RunsLast) (know : RunsKnow) (events : RunsEvents) (R : Run) (N : ℕ) (m : Marks) (tell : MarksTell R N m) (ok : Sound (time_bound N) (clock_at R N) m)
@@ -73,13 +72,15 @@ module _ (sound : RunsSound) (keep : RunsKeepLaws) (stamps : RunsStamp) (step : 
   clocks : (t u : ℕ) → t ≤ u → clock_at R t ≤ clock_at R u
   clocks t u l = clock_later sound keep stamps step last know R t u l
 
-  -- an edge row that is born, with its link
-  edge_link : (e : ℕ) (x : Born e) → m.source e ≡ d.source → m.target e ≡ d.target → (c : Bound) × LinkEvent R x.time x.linking.began (change.Edge c) e × ((c.source ≡ d.source) × (c.target ≡ d.target))
-  edge_link e x p q =
-      let y = edge_change_of x.linking.change x.linking.kind in
-      let ev : LinkEvent R x.time x.linking.began (change.Edge y.0) e = subst (λ c. LinkEvent R x.time x.linking.began c e) y.1 x.linking.event in
-      let s = edge_bound sound keep stamps step last know R ev N x.before in
-      (y.0, ev, (sym s.0 ∙ sym (tell.source e) ∙ p, sym s.1 ∙ sym (tell.target e) ∙ q))
+  -- an edge row that is born, and since when it stands
+  edge_stood : (e : ℕ) (x : Born e) → m.source e ≡ d.source → m.target e ≡ d.target → (v : Stood sound keep stamps step last know events R N e x.time) × ((v.bound.source ≡ d.source) × (v.bound.target ≡ d.target))
+  edge_stood e x p q = let v = stood sound keep stamps step last know events R N e x in (v, (sym v.source ∙ sym (tell.source e) ∙ p, sym v.target ∙ sym (tell.target e) ∙ q))
+
+  read_late : 0 < read
+  read_late = omega (arith, read_turn.after)
+
+  birth_is : (e : ℕ) (x : Born e) → m.edge_ins e ≡ record { stamp = x.stamp; time = x.time }
+  birth_is e x = birth_tells sound keep stamps step last know events R N m tell Edge e x
 
   end_mark_is : (e : ℕ) (x : End sound keep stamps step last know events R N Edge e) → m.edge_del e ≡ record { stamp = x.stamp; time = x.time }
   end_mark_is e x = tell.ended Edge e x.time x.stamp x.linked x.ending x.is
@@ -114,14 +115,13 @@ module _ (sound : RunsSound) (keep : RunsKeepLaws) (stamps : RunsStamp) (step : 
     vertex_there n s u l x a g e =
         let t = x.time in
         let y = living_birth sound keep stamps step last know events R N x.time n s l (omega (arith, x.before, read_first, first_second, second_now)) x.held.1 in
-        let p = living_link sound keep stamps step last know R l x.held.1 in
         let rises = clocks x.time read (omega (arith, x.before)) in (
           record {
             row = omega (arith, tell.vertices, row_in sound keep stamps step last know events R N m tell ok Vertex x.time s x.held.1.linked);
-            born = inl (weaken _ (subst (λ z. Earlier z (at read)) (sym (tell.born Vertex s y.0.time y.0.stamp y.0.linked y.0.linking y.0.is)) (earlier y.0.stamp y.0.time (clock_at R read) read (omega (arith, y.2)) (omega (arith, y.1, x.before)))));
+            born = inl (weaken _ (subst (λ z. Earlier z (at read)) (sym (birth_tells sound keep stamps step last know events R N m tell Vertex s y.0)) (earlier_on (record { stamp = y.0.stamp; time = y.0.time }) (clock_at R t) t (clock_at R read) read y.1 rises (omega (arith, x.before)))));
             ends = lives_on u s a g e;
           },
-          tell.key p.time p.held.0 n s p.held.1 (omega (arith, p.before, x.before, read_first, first_second, second_now)),
+          living_tells sound keep stamps step last know events R N m tell x.time n s l (omega (arith, x.before, read_first, first_second, second_now)) x.held.1,
         )
 
     pair_there : PairThere (time_bound N) m c d.pair d.source d.target
@@ -131,21 +131,20 @@ module _ (sound : RunsSound) (keep : RunsKeepLaws) (stamps : RunsStamp) (step : 
         let y = vertex_there d.pair.to d.target second j have.1 (omega (arith, first_second)) (omega (arith, second_now)) target_seen.alive in
         record { source = x.0; from = x.1; target = y.0; to = y.1 }
 
-    older : (e : ℕ) (x : Born e) → m.source e ≡ d.source → m.target e ≡ d.target → (y : Bound) (ev : LinkEvent R x.time x.linking.began (change.Edge y) e) → y.source ≡ d.source → y.target ≡ d.target → x.time < read
-        → Still sound keep stamps step last know R read (head.Edge y.pair.from y.pair.to) e y → After c (m.edge_ins e) ⊎ Before (time_bound N) c (m.edge_del e)
-    older e x p q y ev s t l (heads z) =
-        let v = binds_of sound keep stamps step last know R ev in
-        let k = edge_keys sound keep stamps step last know R ev in
-        let from : y.pair.from ≡ d.pair.from = living_key sound keep stamps step last know R k.0 i v.source (subst (Living R first d.pair.from) (sym s) source_seen) in
-        let to : y.pair.to ≡ d.pair.to = living_key sound keep stamps step last know R k.1 j v.target (subst (Living R second d.pair.to) (sym t) target_seen) in
+    older : (e : ℕ) (x : Born e) → m.source e ≡ d.source → m.target e ≡ d.target → (y : Stood sound keep stamps step last know events R N e x.time) → y.bound.source ≡ d.source → y.bound.target ≡ d.target → y.time ≤ read
+        → Still sound keep stamps step last know R read (head.Edge y.bound.pair.from y.bound.pair.to) e y.bound → After c (m.edge_ins e) ⊎ Before (time_bound N) c (m.edge_del e)
+    older e x p q y s t l (heads z) =
+        let v = y.since in
+        let from : y.bound.pair.from ≡ d.pair.from = living_key sound keep stamps step last know R v.keys.0 i v.source (subst (Living R first d.pair.from) (sym s) source_seen) in
+        let to : y.bound.pair.to ≡ d.pair.to = living_key sound keep stamps step last know R v.keys.1 j v.target (subst (Living R second d.pair.to) (sym t) target_seen) in
         let same : e ≡ h = sym z ∙ ap₂ (λ a g. head_at R read (head.Edge a g)) from to ∙ read_is in
         inr (mine e same (linked_is_row (R.state N) Edge e x.linked).0 p q)
-    older e x p q y ev s t l (ends z) =
-        let w : LinkedAt R read Edge e = linked_later sound keep stamps step last know R (suc x.time) read Edge e l ev.step.linked in
+    older e x p q y s t l (ends z) =
+        let w : LinkedAt R read Edge e = linked_later sound keep stamps step last know R y.time read Edge e l y.since.row in
         let u = ended_by sound keep stamps step last know events R N Edge e read (omega (arith, read_first, first_second, second_now)) w z in
         inr (inl (weaken (m.edge_del e) (ends_read e u.0 u.2 u.1)))
-    older e x p q y ev s t l (lone (inl z)) = absurd (dead_not sound keep stamps step last know R first d.source (dead_kept sound keep stamps step last know R read first d.source (omega (arith, read_first)) (subst (Dead R read) s z)) source_seen.alive)
-    older e x p q y ev s t l (lone (inr z)) = absurd (dead_not sound keep stamps step last know R second d.target (dead_kept sound keep stamps step last know R read second d.target (omega (arith, read_first, first_second)) (subst (Dead R read) t z)) target_seen.alive)
+    older e x p q y s t l (lone (inl z)) = absurd (dead_not sound keep stamps step last know R first d.source (dead_kept sound keep stamps step last know R read first d.source (omega (arith, read_first)) (subst (Dead R read) s z)) source_seen.alive)
+    older e x p q y s t l (lone (inr z)) = absurd (dead_not sound keep stamps step last know R second d.target (dead_kept sound keep stamps step last know R read second d.target (omega (arith, read_first, first_second)) (subst (Dead R read) t z)) target_seen.alive)
 
     edge_gone : EdgeFound (time_bound N) m c d.source d.target false
     edge_gone e _ p q = go (born_or sound keep stamps step last know events R N Edge e)
@@ -153,10 +152,11 @@ module _ (sound : RunsSound) (keep : RunsKeepLaws) (stamps : RunsStamp) (step : 
         go : Born e ⊎ ¬ (LinkedAt R N Edge e × Stamped R N Edge Ins e) → After c (m.edge_ins e) ⊎ Before (time_bound N) c (m.edge_del e)
         go (inr n) = inl (subst (Earlier (mark_of c)) (sym (tell.unborn Edge e n)) (inl (omega (arith, soon, clocks first N (omega (arith, first_second, second_now))))))
         go (inl x) =
-            let y = edge_link e x p q in
-            ⊎_elim (λ (l : x.time < read). older e x p q y.0 y.1 y.2.0 y.2.1 l (still sound keep stamps step last know R y.1 read l))
+            let y = edge_stood e x p q in
+            ⊎_elim (λ (l : x.time < read). let a : y.0.time ≤ read = omega (arith, y.0.early) in older e x p q y.0 y.1.0 y.1.1 a (still sound keep stamps step last know R y.0.since read a))
             (λ (l : read ≤ x.time).
-            let n = other_time sound keep stamps step last know events R N m tell ok b read none read_turn (omega (arith, read_first, first_second, second_now)) Ins x.time x.linking.began x.linking.change e x.linking.event in
+            let o = link_way sound keep stamps step last know events R N Edge e x (omega (arith, read_late)) in
+            let n = other_time sound keep stamps step last know events R N m tell ok b read none read_turn (omega (arith, read_first, first_second, second_now)) Ins x.time o.linking.began o.linking.change e o.linking.event in
             inl (newer e x p q (omega (arith, n))))
             (cases_lt x.time read)
 
@@ -168,9 +168,9 @@ module _ (sound : RunsSound) (keep : RunsKeepLaws) (stamps : RunsStamp) (step : 
   at_read mine =
       missed_at (turn_key R N read) (inr (refl, omega arith)) (clocks read first (omega (arith, read_first))) read_first mine
       (λ e x p q l.
-      let c = birth_now sound keep stamps step last know events R N Edge e x in
+      let c = link_now sound keep stamps step last know events R N Edge e x.time x.stamp (link_way sound keep stamps step last know events R N Edge e x (omega (arith, read_late))) in
       let g = clocks read x.time (omega arith) in
-      subst (Earlier (at read)) (sym (tell.born Edge e x.time x.stamp x.linked x.linking x.is)) (earlier (clock_at R read) read x.stamp x.time (omega (arith, c.0)) l))
+      subst (Earlier (at read)) (sym (birth_is e x)) (earlier (clock_at R read) read x.stamp x.time (omega (arith, c.0)) l))
       (at_turn read read_turn (omega (arith, read_first, first_second, f.before)))
 
   -- right after the end of the row that was read
@@ -187,18 +187,17 @@ module _ (sound : RunsSound) (keep : RunsKeepLaws) (stamps : RunsStamp) (step : 
 
     newer_after : (e : ℕ) (g : Born e) → m.source e ≡ d.source → m.target e ≡ d.target → read < g.time → Earlier (record { stamp = y.stamp; time = y.time }) (m.edge_ins e)
     newer_after e g s t l =
-        let u = edge_link h x p q in
-        let v = edge_link e g s t in
-        let early : x.time < read = linked_from sound keep stamps step last know R u.1 read linked_read in
-        let before : x.time < g.time = omega arith in
-        let st = (events R).edge_order x.time x.linking.began h g.time g.linking.began e u.0 v.0 u.1 v.1 (u.2.0 ∙ sym v.2.0) (u.2.1 ∙ sym v.2.1) before in
-        let w : LinkedAt R g.time Edge h = linked_later sound keep stamps step last know R (suc x.time) g.time Edge h before u.1.step.linked in
-        let z = ended_by sound keep stamps step last know events R N Edge h g.time (omega (arith, g.before)) w st in
+        let v = edge_stood h x p q in
+        let new = v.0.since.new read linked_read in
+        let early : x.time < read = ⊎_elim (λ (a : x.time < read). a) (λ (a : read ≤ x.time). absurd (omega (arith, v.0.late (omega (arith, read_late)), new))) (cases_lt x.time read) in
+        let o = link_way sound keep stamps step last know events R N Edge e g (omega (arith, read_late)) in
+        let st = edge_over sound keep stamps step last know events R N h e (sym (tell.source h) ∙ p ∙ sym s ∙ tell.source e) (sym (tell.target h) ∙ q ∙ sym t ∙ tell.target e) x g.time g.stamp o (omega arith) in
+        let z = ended_by sound keep stamps step last know events R N Edge h g.time (omega (arith, o.before)) st.0 st.1 in
         let same = same_ends h y z.0 in
         let same_stamp : y.stamp ≡ z.0.stamp = same.0 in
         let same_time : y.time ≡ z.0.time = same.1 in
-        let c = birth_now sound keep stamps step last know events R N Edge e g in
-        subst (Earlier (record { stamp = y.stamp; time = y.time })) (sym (tell.born Edge e g.time g.stamp g.linked g.linking g.is)) (earlier y.stamp y.time g.stamp g.time (omega (arith, z.2, c.0)) (omega (arith, z.1)))
+        let c = link_now sound keep stamps step last know events R N Edge e g.time g.stamp o in
+        subst (Earlier (record { stamp = y.stamp; time = y.time })) (sym (birth_is e g)) (earlier y.stamp y.time g.stamp g.time (omega (arith, z.2, c.0)) (omega (arith, z.1)))
 
     after_row : EdgeMissed R N b k m d
     after_row =

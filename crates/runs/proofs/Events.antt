@@ -1,5 +1,5 @@
 -- Links and ends: each row is linked once and ends once, its stamps lie between the clocks, and rows of one key or pair follow one another.
-use Rattle.std.proofs.Common.{◌≡◌, ℕ, suc, ◌<◌, ◌≤◌, Some, sym, refl, ap, ◌∙◌, subst, ⊎_elim, arith}
+use Rattle.std.proofs.Common.{◌≡◌, ℕ, suc, ◌<◌, ◌≤◌, ◌⊎◌, Some, None, sym, refl, ap, ◌∙◌, subst, inl, inr, ⊎_elim, arith}
 use Rattle.std.proofs.lemmas.Bool.{cases_lt}
 use Rattle.layout.specs.declared.names.Kind.{Kind}
 use Rattle.layout.specs.declared.names.Kind.TheVariants.{Vertex}
@@ -17,7 +17,9 @@ use Rattle.places.specs.declared.place.Purpose.{Purpose}
 use Rattle.places.specs.declared.place.Place.{Place}
 use Rattle.places.specs.declared.place.Place.TheVariants as place
 use Rattle.places.specs.declared.place.Stage.TheVariants.{Swap}
-use Rattle.places.specs.Touches.{change_kind, settled_field}
+use Rattle.places.specs.Touches.{head_kind, change_kind, settled_field}
+use Rattle.layout.specs.Layout.{Named}
+use Rattle.layout.specs.declared.names.Head.{Head}
 use Rattle.stepper.specs.declared.request.Request.TheVariants.{Turn}
 use Rattle.laws.specs.Fits.{FitChange, FitPlace}
 use Rattle.laws.specs.Sound.{RunsSound, RunsKeepLaws}
@@ -26,11 +28,12 @@ use Rattle.runs.specs.Runs.{Run, history_at}
 use Rattle.runs.specs.Views.{clock_at, head_at, mark_at, place_at, LinkedAt}
 use Rattle.runs.specs.Seen.{open_at}
 use Rattle.runs.specs.Steps.{TurnAt, MarkSteps, MarkSteps.same, MarkSteps.settled, MarkSteps.ended, RunsStep}
-use Rattle.runs.specs.Times.{Past, RunsLast}
+use Rattle.runs.specs.Times.{Past, LinkedBy, RunsLast}
 use Rattle.runs.specs.Known.{Stamped, Dead, FromClock, Living, LinkEvent, EndEvent, Known}
 use Rattle.runs.specs.Reasons.{WorkerKnows, WorkerKnows.free, WorkerKnows.busy, RunsKnow}
 use Rattle.runs.proofs.Histories.{traced}
 use Rattle.runs.proofs.Times.{kept_from}
+use Rattle.runs.proofs.Opens.{open_start}
 use Rattle.runs.proofs.Kept.{settled_is, stamped_later, dead_later}
 use Rattle.runs.proofs.Heads.{key_event, row_pos, stays_or_dead}
 use Rattle.runs.proofs.Knows.{fits_at}
@@ -48,11 +51,11 @@ module _ (sound : RunsSound) (keep : RunsKeepLaws) (stamp : RunsStamp) (step : R
       go (busy b c e g i h) = (b, e, subst (Known R k b) t.place h)
 
   -- the keys of a change that is linked
-  link_fits : {k w : ℕ} {d : Change} {h : ℕ} → TurnAt R k w (place.Link d h) → FitChange (R.state k) d
+  pub link_fits : {k w : ℕ} {d : Change} {h : ℕ} → TurnAt R k w (place.Link d h) → FitChange (R.state k) d
   link_fits {k} {w} {d} {h} t = let f : FitPlace (R.state k) (place.Link d h) = subst (FitPlace (R.state k)) t.place (fits_at sound keep stamp step last R k w t.within) in f.0
 
-  key_in : (k i : ℕ) → i < (R.state k).sizes.keys → i < R.sizes.keys
-  key_in k i l = subst (λ (z : Sizes). i < z.keys) ((stamp R.sizes R.cells R.room (history_at R k) (R.state k) (traced R k)).sizes) l
+  pub key_in : (k i : ℕ) → i < (R.state k).sizes.keys → i < R.sizes.keys
+  key_in k i l = subst (λ (z : Sizes). i < z.keys) ((stamp (R.state 0) R.clean (history_at R k) (R.state k) (traced R k)).sizes ∙ R.start) l
 
   pub vertex_key : {p b i r : ℕ} → LinkEvent R p b (change.Vertex i) r → i < R.sizes.keys
   vertex_key {p} {b} {i} {r} ev = key_in p i (link_fits ev.step.turn)
@@ -135,9 +138,6 @@ module _ (sound : RunsSound) (keep : RunsKeepLaws) (stamp : RunsStamp) (step : R
   pub linked_from : {p b : ℕ} {d : Change} {r : ℕ} → LinkEvent R p b d r → (k : ℕ) → LinkedAt R k (change_kind d) r → p < k
   linked_from {p} {b} {d} {r} ev k l = ⊎_elim (λ (z : p < k). z) (λ (z : k ≤ p). absurd (ev.step.fresh (linked_later k p (change_kind d) r z l))) (cases_lt p k)
 
-  pub linked_on : {p b : ℕ} {d : Change} {r : ℕ} → LinkEvent R p b d r → (k : ℕ) → p < k → LinkedAt R k (change_kind d) r
-  linked_on {p} {b} {d} {r} ev k l = linked_later (suc p) k (change_kind d) r l ev.step.linked
-
   pub link_change : {c d : Change} {h g : ℕ} → place.Link c h ≡ place.Link d g → c ≡ d
   link_change e = cc
 
@@ -169,18 +169,62 @@ module _ (sound : RunsSound) (keep : RunsKeepLaws) (stamp : RunsStamp) (step : R
       let s = same_turn ev.turn gv.turn in
       (sym e, same_begin p s.0 ev.whose gv.whose, end_change s.1)
 
-  -- a living head was linked at its key
-  pub living_link : {t i s : ℕ} → i < R.sizes.keys → Living R t i s → Past t (λ p. (b : ℕ) × LinkEvent R p b (change.Vertex i) s)
-  living_link {t} {i} {s} n v =
-      let p = (last R).head t (head.Vertex i) n (subst (λ h. 0 < h) (sym v.head) (row_pos R t s v.linked)) in
+  -- calls change something only after they began
+  event_late : (p w b : ℕ) → open_at R p w ≡ Some b → 0 < p
+  event_late p w b e = ⊎_elim (λ (z : 0 < p). z)
+      (λ (z : p ≤ 0). let q : p ≡ 0 = omega arith in let x : None ≡ Some b = sym (open_start R w) ∙ subst (λ t. open_at R t w ≡ Some b) q e in absurd cc) (cases_lt 0 p)
+
+  pub link_late : {p b r : ℕ} {d : Change} → LinkEvent R p b d r → 0 < p
+  link_late {p} {b} {r} {d} ev = event_late p _ b ev.whose
+
+  pub end_late : {p b r : ℕ} {d : Change} → EndEvent R p b d r → 0 < p
+  end_late {p} {b} {r} {d} ev = event_late p _ b ev.whose
+
+  -- rows from before the start
+  pub old_linked : (i r : ℕ) → i < R.sizes.keys → head_at R 0 (head.Vertex i) ≡ r → 0 < r → LinkedAt R 0 Vertex r
+  old_linked i r n e l = subst (LinkedAt R 0 Vertex) e ((last R).old_head (head.Vertex i) n (omega arith))
+
+  pub old_living : (i r : ℕ) → i < R.sizes.keys → head_at R 0 (head.Vertex i) ≡ r → 0 < r → Living R 0 i r
+  old_living i r n e l =
+      let o = old_linked i r n e l in
+      let x = (last R).old_row Vertex r o in
+      record { linked = o; head = e; born = record { number = x.number; is = x.stamp }; alive = x.alive }
+
+  pub old_not_linked : (c : Kind) (r : ℕ) → LinkedAt R 0 c r → {p b : ℕ} {d : Change} → change_kind d ≡ c → LinkEvent R p b d r → ⊥
+  old_not_linked c r l {p} {b} {d} k ev = ev.step.fresh (linked_later 0 p (change_kind d) r (omega arith) (subst (λ (u : Kind). LinkedAt R 0 u r) (sym k) l))
+
+  head_named : (h : Head) → Named R.sizes (cell.Head h) → Named (R.state 0).sizes (cell.Head h)
+  head_named h n = subst (λ (z : Sizes). Named z (cell.Head h)) (sym R.start) n
+
+  pub old_apart : (h g : Head) → Named R.sizes (cell.Head h) → Named R.sizes (cell.Head g) → head_kind h ≡ head_kind g → head_at R 0 h ≡ head_at R 0 g → 0 < head_at R 0 h → h ≡ g
+  old_apart h g n m k e l = R.clean.apart h g (head_named h n) (head_named g m) k e l
+
+  -- a living head was so at the start, or was linked at its key
+  pub living_from : {t i s : ℕ} → i < R.sizes.keys → Living R t i s → (head_at R 0 (head.Vertex i) ≡ s) ⊎ Past t (λ p. (b : ℕ) × LinkEvent R p b (change.Vertex i) s)
+  living_from {t} {i} {s} n v =
+      ⊎_elim (λ (e : head_at R t (head.Vertex i) ≡ head_at R 0 (head.Vertex i)). inl (sym e ∙ v.head))
+      (λ (p : Past t (λ p. LinkedBy R p (head.Vertex i) (head_at R t (head.Vertex i)))).
       let ev = key_event step last R t (worker_knows t) p.time p.before i _ p.held in
-      record { time = p.time; before = p.before; held = (ev.0, subst (λ z. LinkEvent R p.time ev.0 (change.Vertex i) z) v.head ev.1) }
+      inr (record { time = p.time; before = p.before; held = (ev.0, subst (λ z. LinkEvent R p.time ev.0 (change.Vertex i) z) v.head ev.1) }))
+      ((last R).head t (head.Vertex i) n (subst (λ h. 0 < h) (sym v.head) (row_pos R t s v.linked)))
 
   key_one : {i j : ℕ} → change.Vertex i ≡ change.Vertex j → i ≡ j
   key_one e = cc
 
+  head_one : {i j : ℕ} → head.Vertex i ≡ head.Vertex j → i ≡ j
+  head_one e = cc
+
   pub living_key : {t i s u j : ℕ} → i < R.sizes.keys → j < R.sizes.keys → Living R t i s → Living R u j s → i ≡ j
-  living_key n m v w = key_one (link_once (living_link n v).held.1 (living_link m w).held.1 refl).2
+  living_key {t} {i} {s} {u} {j} n m v w = go (living_from n v) (living_from m w)
+    where
+      pos : 0 < s
+      pos = row_pos R t s v.linked
+
+      go : (head_at R 0 (head.Vertex i) ≡ s) ⊎ Past t (λ p. (b : ℕ) × LinkEvent R p b (change.Vertex i) s) → (head_at R 0 (head.Vertex j) ≡ s) ⊎ Past u (λ p. (b : ℕ) × LinkEvent R p b (change.Vertex j) s) → i ≡ j
+      go (inl x) (inl y) = head_one (old_apart (head.Vertex i) (head.Vertex j) n m refl (x ∙ sym y) (omega (arith, pos)))
+      go (inl x) (inr y) = absurd (old_not_linked Vertex s (old_linked i s n x pos) refl y.held.1)
+      go (inr x) (inl y) = absurd (old_not_linked Vertex s (old_linked j s m y pos) refl x.held.1)
+      go (inr x) (inr y) = key_one (link_once x.held.1 y.held.1 refl).2
 
   -- a head gives way to another only when it is dead
   pub outlived : (i r s t u : ℕ) → i < R.sizes.keys → t ≤ u → Living R t i r → Living R u i s → ¬ (r ≡ s) → Dead R u r
@@ -189,10 +233,12 @@ module _ (sound : RunsSound) (keep : RunsKeepLaws) (stamp : RunsStamp) (step : R
       (stays_or_dead step last R u (worker_knows u) i n r t u (row_pos R t r v.linked) l (omega arith) v.head)
 
   -- of two rows of one key, the older was dead before the newer was linked
-  pub link_order : {p b i r q a s : ℕ} → LinkEvent R p b (change.Vertex i) r → LinkEvent R q a (change.Vertex i) s → p < q → Dead R q r
-  link_order {p} {b} {i} {r} {q} {a} {s} ev fv l =
-      let pos = row_pos R (suc p) r ev.step.linked in
+  pub order_from : (i r u : ℕ) {q a s : ℕ} → i < R.sizes.keys → head_at R u (head.Vertex i) ≡ r → 0 < r → u ≤ q → LinkEvent R q a (change.Vertex i) s → Dead R q r
+  order_from i r u {q} {a} {s} n h pos l fv =
       ⊎_elim
       (λ (e : head_at R q (head.Vertex i) ≡ r). ⊎_elim (λ (z : head_at R q (head.Vertex i) ≡ 0). absurd (omega arith)) (λ (d : Dead R q (head_at R q (head.Vertex i))). subst (Dead R q) e d) fv.why.1)
       (λ (d : Dead R q r). d)
-      (stays_or_dead step last R q (worker_knows q) i (vertex_key ev) r (suc p) q pos l (omega arith) ev.step.head)
+      (stays_or_dead step last R q (worker_knows q) i n r u q pos l (omega arith) h)
+
+  pub link_order : {p b i r q a s : ℕ} → LinkEvent R p b (change.Vertex i) r → LinkEvent R q a (change.Vertex i) s → p < q → Dead R q r
+  link_order {p} {b} {i} {r} {q} {a} {s} ev fv l = order_from i r (suc p) (vertex_key ev) ev.step.head (row_pos R (suc p) r ev.step.linked) l fv

@@ -1,20 +1,19 @@
 -- Every history of begins and turns is the history of a run, and the run's history leads to its state.
-use Rattle.std.proofs.Common.{◌≡◌, ℕ, zero, suc, ◌<◌, ◌≤◌, eqb, cond, List, [], ◌∷◌, length, sym, refl, ◌∙◌, ap₂, arith}
+use Rattle.std.proofs.Common.{◌≡◌, ℕ, zero, suc, ◌<◌, eqb, cond, List, [], ◌∷◌, length, sym, refl, ◌∙◌, ap₂, arith}
 use Rattle.std.proofs.lemmas.Bool.{eq-eqb, ne_eqb}
-use Rattle.layout.specs.declared.sizes.Sizes.{Sizes}
-use Rattle.layout.specs.Layout.{needed}
 use Rattle.stepper.specs.declared.request.Request.{Request}
 use Rattle.stepper.specs.declared.request.Request.TheVariants as request
 use Rattle.stepper.specs.States.{State}
 use Rattle.stepper.specs.Opening.{opened_state}
 use Rattle.stepper.specs.Requests.{reply_of, stepped}
 use Rattle.stepper.specs.History.{Event, Traces}
-use Rattle.runs.specs.Runs.{Run, history_at, HistoriesAreRuns}
+use Rattle.runs.specs.Runs.{Run, history_at, HistoriesAreRuns, OpeningsAreRuns}
+use Rattle.laws.specs.Clean.{Clean, OpeningsClean}
 
--- the run's history leads from the opening to its state
-pub traced : (R : Run) (k : ℕ) → Traces (opened_state R.cells R.sizes) (history_at R k) (R.state k)
+-- the run's history leads from its start to its state
+pub traced : (R : Run) (k : ℕ) → Traces (R.state 0) (history_at R k) (R.state k)
 unfolding history_at
-traced R zero = sym R.start
+traced R zero = refl
 traced R (suc k) = (R.state k, traced R k, refl, R.next k)
 
 module _ (start : State) where
@@ -47,32 +46,35 @@ module _ (start : State) where
       let before : states (request_at (e ∷ h)) (length h) ≡ t.0 = states_agree _ _ (length h) (older_requests e h) ∙ reaches h t.0 t.1 in
       ap₂ stepped before (newest e h) ∙ sym t.3
 
-  run_by : (cs : List ℕ) (z : Sizes) → needed z ≤ length cs → start ≡ opened_state cs z → (ℕ → Request) → Run
+  run_by : Clean start → (ℕ → Request) → Run
   unfolding states
-  run_by cs z l e q = record { cells = cs; sizes = z; room = l; request = q; state = states q; start = e; next = λ k. refl }
+  run_by c q = record { sizes = start.sizes; request = q; state = states q; clean = c; start = refl; next = λ k. refl }
 
-  histories_agree : (cs : List ℕ) (z : Sizes) (l : needed z ≤ length cs) (e : start ≡ opened_state cs z) (q p : ℕ → Request) (n : ℕ) → ((k : ℕ) → k < n → q k ≡ p k) → history_at (run_by cs z l e q) n ≡ history_at (run_by cs z l e p) n
+  histories_agree : (c : Clean start) (q p : ℕ → Request) (n : ℕ) → ((k : ℕ) → k < n → q k ≡ p k) → history_at (run_by c q) n ≡ history_at (run_by c p) n
   unfolding history_at run_by states
-  histories_agree cs z l e q p zero a = refl
-  histories_agree cs z l e q p (suc n) a =
+  histories_agree c q p zero a = refl
+  histories_agree c q p (suc n) a =
       ap₂ (λ (x : Event) (h : List Event). x ∷ h)
       (ap₂ (λ s r. record { request = r; reply = reply_of s r }) (states_agree q p n (λ k b. a k (omega arith))) (a n (omega arith)))
-      (histories_agree cs z l e q p n (λ k b. a k (omega arith)))
+      (histories_agree c q p n (λ k b. a k (omega arith)))
 
-  has_history : (cs : List ℕ) (z : Sizes) (l : needed z ≤ length cs) (e : start ≡ opened_state cs z) (h : List Event) (s : State) → Traces start h s → history_at (run_by cs z l e (request_at h)) (length h) ≡ h
+  has_history : (c : Clean start) (h : List Event) (s : State) → Traces start h s → history_at (run_by c (request_at h)) (length h) ≡ h
   unfolding history_at run_by states
-  has_history cs z l e [] s t = refl
-  has_history cs z l e (x ∷ h) s t =
+  has_history c [] s t = refl
+  has_history c (x ∷ h) s t =
       let before : states (request_at (x ∷ h)) (length h) ≡ t.0 = states_agree _ _ (length h) (older_requests x h) ∙ reaches h t.0 t.1 in
       let event : record { request = request_at (x ∷ h) (length h); reply = reply_of (states (request_at (x ∷ h)) (length h)) (request_at (x ∷ h) (length h)) } ≡ x = rw (before, newest x h, sym t.2) refl in
-      ap₂ (λ (y : Event) (g : List Event). y ∷ g) event (histories_agree cs z l e _ _ (length h) (older_requests x h) ∙ has_history cs z l e h t.0 t.1)
+      ap₂ (λ (y : Event) (g : List Event). y ∷ g) event (histories_agree c _ _ (length h) (older_requests x h) ∙ has_history c h t.0 t.1)
 
 pub histories_are_runs : HistoriesAreRuns
-unfolding run_by
-histories_are_runs z cs l h s t = record {
-  run = run_by (opened_state cs z) cs z l refl (request_at (opened_state cs z) h);
+unfolding run_by states
+histories_are_runs start c h s t = record {
+  run = run_by start c (request_at start h);
   sizes = refl;
-  cells = refl;
-  history = has_history (opened_state cs z) cs z l refl h s t;
-  state = reaches (opened_state cs z) h s t;
+  starts = refl;
+  history = has_history start c h s t;
+  state = reaches start h s t;
 }
+
+pub openings_are_runs : OpeningsClean → OpeningsAreRuns
+openings_are_runs clean z cs l = histories_are_runs (opened_state cs z) (clean z cs l)

@@ -15,7 +15,6 @@ use Rattle.stepper.specs.declared.request.Reply.{Reply}
 use Rattle.stepper.specs.declared.request.Reply.TheVariants as reply
 use Rattle.stepper.specs.States.{State}
 use Rattle.stepper.specs.Turns.{worker_at, hand_at, next_at, answer_at, followed_at, turned}
-use Rattle.stepper.specs.Workers.{fresh, nobody}
 use Rattle.stepper.specs.Requests.{is_idle, begun_as, state_begun, turn_refused, answered_or, reply_of}
 use Rattle.laws.specs.Fits.{FitPlace}
 use Rattle.laws.specs.Sound.{RunsSound, RunsKeepLaws}
@@ -28,7 +27,6 @@ use Rattle.runs.specs.Times.{RunsLast}
 use Rattle.runs.specs.Purposes.{InCall, place_made}
 use Rattle.runs.specs.Known.{TurnOf, Known}
 use Rattle.runs.specs.Reasons.{Right, BegunBy, WorkerKnows, WorkerKnows.free, WorkerKnows.busy, AnswerRight, RunKnows, RunsKnow}
-use Rattle.runs.proofs.Times.{copies}
 use Rattle.runs.proofs.Turns.{worker_after, others_after}
 use Rattle.runs.proofs.Steps.{StepCase, StepCase.keeps, StepCase.begins, StepCase.turns, begin_taken, begun_worker, begun_others, sound_at, sizes_at, case_at, here, within, apart_at, won_step}
 use Rattle.runs.proofs.Kept.{known_later}
@@ -37,7 +35,7 @@ use Rattle.runs.proofs.After.{After, after_next}
 use Rattle.runs.proofs.Opens.{open_start, refused_keeps, begin_opens, begin_keeps, runs_keeps, answer_closes, answer_keeps}
 
 -- a worker whose turn is not refused is in a call
-turn_busy : (s : State) (w : ℕ) → turn_refused s w ≡ None → ¬ ((worker_at s w).place ≡ place.Idle)
+pub turn_busy : (s : State) (w : ℕ) → turn_refused s w ≡ None → ¬ ((worker_at s w).place ≡ place.Idle)
 turn_busy s w e i = go (ltb w s.sizes.workers) (is_idle (worker_at s w).place) (ap is_idle i) e
   where
     go : (a b : Bool) → b ≡ true → cond a (cond b (Some WorkerIdle) None) (Some NoSuchWorker) ≡ None → ⊥
@@ -62,8 +60,8 @@ module _ (sound : RunsSound) (keep : RunsKeepLaws) (stamp : RunsStamp) (step : R
   carried k v l o p (busy b c e g i n) =
       busy b c (o ∙ e) (begun_later (omega arith) g) (subst (λ y. InCall y c) (sym p) i) (subst (Known R (suc k) b) (sym p) (known_later R k (suc k) (omega arith) ((last R).times k (suc k) (omega arith)) b (place_at R k v) (fits_at k v l) n))
 
-  opened : (w : ℕ) → WorkerKnows R zero w
-  opened w = free (open_start R w) (subst (λ (s : State). (worker_at s w).place ≡ place.Idle) (sym R.start) (copies (λ u. u.place ≡ place.Idle) 8 w fresh nobody refl refl))
+  opened : (w : ℕ) → w < R.sizes.workers → WorkerKnows R zero w
+  opened w b = free (open_start R w) (R.clean.idle w (subst (λ (z : Sizes). w < z.workers) (sym R.start) b))
 
   -- a begin
   first_known : (k : ℕ) (c : Call) → Known R (suc k) k (place_first c) × InCall (place_first c) c
@@ -130,7 +128,7 @@ module _ (sound : RunsSound) (keep : RunsKeepLaws) (stamp : RunsStamp) (step : R
       go (turns w q n f e) = turn_known k w h q n e (reply_at (request.Turn w) q _ f)
 
   all_known : (k : ℕ) → Knows k
-  all_known zero j l w b = let z : zero ≡ j = omega arith in subst (λ x. WorkerKnows R x w) z (opened w)
+  all_known zero j l w b = let z : zero ≡ j = omega arith in subst (λ x. WorkerKnows R x w) z (opened w b)
   all_known (suc k) j l w b =
       ⊎_elim (λ (a : j < suc k). all_known k j a w b) (λ (a : suc k ≤ j). let z : suc k ≡ j = omega arith in subst (λ x. WorkerKnows R x w) z (next_known k (all_known k) w b)) (cases_lt j (suc k))
 

@@ -1,30 +1,32 @@
-mod Histories
-mod Counts
-mod Links
-mod Turns
-mod TurnSteps
-mod Steps
-mod Times
-mod Kept
-mod Heads
+pub mod Histories
+pub mod Links
+pub mod Turns
+pub mod TurnSteps
+pub mod Steps
+pub mod Times
+pub mod Kept
+pub mod Heads
 mod Goods
 mod Looks
 mod Settled
-mod Swaps
+pub mod Swaps
 mod Own
 mod After
-mod Opens
-mod Knows
-mod Events
-mod EdgeEvents
+pub mod Opens
+pub mod Knows
+pub mod Events
+pub mod EdgeEvents
 mod Ends
-mod Decides
-mod Births
+pub mod Decides
+pub mod Births
 mod MarkLaws
 mod MarkSound
 mod Carries
-mod Once
+pub mod Once
 mod Sights
 mod VertexFinds
 mod EdgeFinds
 mod EdgeMisses
+mod Starts
+mod Settling
+mod Worked

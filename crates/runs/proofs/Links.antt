@@ -1,6 +1,6 @@
 -- A link turn: whether it links, and what the new row then holds.
 use Rattle.std.proofs.Common.{◌≡◌, ℕ, ◌+◌, ◌*◌, ◌<◌, ◌≤◌, true, eqb, List, length, Some, refl, ap, ◌∙◌, arith}
-use Rattle.std.proofs.lemmas.Bool.{eq-eqb, lt-ltb, ltb-true}
+use Rattle.std.proofs.lemmas.Bool.{eq-eqb, lt-ltb}
 use Rattle.std.proofs.lemmas.List.{length-set, get_or-set_same, get_or-set_other}
 use Rattle.layout.specs.declared.sizes.Sizes.{Sizes}
 use Rattle.layout.specs.declared.names.Kind.{Kind}
@@ -23,7 +23,7 @@ use Rattle.stepper.specs.States.{State}
 use Rattle.stepper.specs.Effects.{put, filled, link_done, linked_cells}
 use Rattle.stepper.specs.Turns.{worker_at, cell_at}
 use Rattle.stepper.specs.Workers.{linked_of}
-use Rattle.laws.specs.Fits.{Linked}
+use Rattle.laws.specs.Fits.{Linked, InChain.at_head, InChain.below, Counted}
 use Rattle.laws.specs.Changes.{next_own}
 
 abbrev pub Enough : Sizes → List ℕ → Type 0
@@ -117,7 +117,8 @@ module _ (z : Sizes) (cs : List ℕ) (l : Enough z cs) (h r : ℕ) where
 -- Rows that are linked, and the row that comes next.
 module _ (s : State) where
   pub linked_is_row : (k : Kind) (r : ℕ) → Linked s k r → IsRow s.sizes k r
-  linked_is_row k r l = (own_row s.sizes k l.owner l.place r l.is).0
+  linked_is_row k r (at_head h _ n e f l) = l
+  linked_is_row k r (below q _ x f l) = l
 
   pub next_is_row : (w : ℕ) (k : Kind) (r : ℕ) → next_own s w k ≡ Some r → IsRow s.sizes k r × Owns s.sizes k w r
   next_is_row w k r e = own_row s.sizes k w (linked_of (worker_at s w) k) r e
@@ -125,18 +126,11 @@ module _ (s : State) where
   pub row_is : (k : Kind) (w n r : ℕ) → row_at s.sizes k w n ≡ Some r → w * rows_each s.sizes k + n + 1 ≡ r
   row_is k w n r e = grind arith
 
-  pub next_not_linked : (w : ℕ) (k : Kind) (r : ℕ) → next_own s w k ≡ Some r → ¬ (Linked s k r)
-  next_not_linked w k r e l =
+  pub next_not_used : (w : ℕ) (k : Kind) (r : ℕ) → next_own s w k ≡ Some r → ¬ (Counted s k r)
+  next_not_used w k r e l =
       let o : l.owner ≡ w = one_owner s.sizes k l.owner w r (own_row s.sizes k l.owner l.place r l.is).1 (next_is_row w k r e).1 in
       let p : l.owner * rows_each s.sizes k + l.place + 1 ≡ r = row_is k l.owner l.place r l.is in
       let q : w * rows_each s.sizes k + linked_of (worker_at s w) k + 1 ≡ r = row_is k w (linked_of (worker_at s w) k) r e in
       let m : l.owner * rows_each s.sizes k ≡ w * rows_each s.sizes k = ap (λ v. v * rows_each s.sizes k) o in
       let b : linked_of (worker_at s l.owner) k ≡ linked_of (worker_at s w) k = ap (λ v. linked_of (worker_at s v) k) o in
       omega (arith, l.before)
-
-few_rows : (z : Sizes) (k : Kind) → rows_each z k ≤ 2048
-few_rows z Vertex = omega arith
-few_rows z Edge = omega arith
-
-pub few_before : (z : Sizes) (k : Kind) (w n r : ℕ) → row_at z k w n ≡ Some r → n < 2048
-few_before z k w n r e = grind (arith, few_rows, ltb-true)

@@ -39,7 +39,7 @@ use Rattle.stepper.specs.Turns.{worker_at, hand_of, next_at, followed_at, turned
 use Rattle.laws.specs.Changes.{next_own, number_in}
 use Rattle.laws.specs.Fits.{FitPurpose, FitPlace}
 use Rattle.laws.specs.Sound.{Sound}
-use Rattle.laws.specs.Stamps.{IsStamp}
+use Rattle.laws.specs.Clean.{IsStamp}
 use Rattle.runs.specs.Runs.{Run}
 use Rattle.runs.specs.Views.{head_at, mark_at}
 use Rattle.runs.specs.Seen.{open_at}

@@ -1,11 +1,10 @@
 -- Every step of every run keeps the laws of one step.
-use Rattle.std.proofs.Common.{rules, ◌≡◌, ℕ, suc, ◌<◌, Bool, true, false, cond, ltb, Some, None, Ok, Err, Option, Result, sym, refl, ap, ap₂, ◌∙◌, subst, inl, ⊎_elim, arith}
-use Rattle.std.proofs.lemmas.Bool.{ltb-true, cases_eq}
+use Rattle.std.proofs.Common.{rules, ◌≡◌, ℕ, suc, ◌<◌, Bool, true, false, cond, ltb, Some, None, Ok, Err, Option, Result, sym, refl, ap, ap₂, ◌∙◌, subst, inl, arith}
+use Rattle.std.proofs.lemmas.Bool.{ltb-true}
 use Rattle.std.proofs.lemmas.List.{get_or-set_same, get_or-set_other}
 use Rattle.codes.specs.declared.refusal.Refusal.{Refusal}
 use Rattle.codes.specs.declared.refusal.Refusal.TheVariants.{NoSuchWorker, WorkerBusy}
 use Rattle.layout.specs.declared.names.Kind.{Kind}
-use Rattle.layout.specs.declared.names.Kind.TheVariants.{Vertex, Edge}
 use Rattle.layout.specs.declared.names.Field.{Field}
 use Rattle.layout.specs.declared.names.Field.TheVariants.{Ins}
 use Rattle.places.specs.declared.place.Change.{Change}
@@ -16,7 +15,6 @@ use Rattle.places.specs.Touches.{change_head, change_kind}
 use Rattle.layout.specs.declared.names.Cell.{Cell}
 use Rattle.layout.specs.declared.names.Cell.TheVariants as cell
 use Rattle.layout.specs.declared.sizes.Sizes.{Sizes}
-use Rattle.layout.specs.Rows.{row_at}
 use Rattle.places.specs.declared.call.Begin.{Begin}
 use Rattle.places.specs.declared.place.Call.{Call}
 use Rattle.places.specs.declared.place.Call.TheVariants as call
@@ -28,16 +26,16 @@ use Rattle.stepper.specs.declared.worker.PageState.{PageState}
 use Rattle.stepper.specs.declared.worker.PageState.TheVariants as page
 use Rattle.stepper.specs.declared.request.Reply.TheVariants as reply
 use Rattle.stepper.specs.States.{State}
-use Rattle.stepper.specs.Opening.{opened_state}
 use Rattle.stepper.specs.Turns.{worker_at, cell_at, followed_at, answer_at, turned}
 use Rattle.stepper.specs.Effects.{linked_cells}
-use Rattle.stepper.specs.Workers.{nobody, at, counted, linked_of}
+use Rattle.stepper.specs.Workers.{nobody, at, counted}
 use Rattle.stepper.specs.Requests.{is_idle, page_free, done_or, answered_or, unless_refused, begun_as, begun, state_begun, turn_refused, state_or, reply_of, stepped}
-use Rattle.laws.specs.Fits.{Linked}
+use Rattle.laws.specs.Fits.{InChain, Linked}
 use Rattle.laws.specs.Changes.{next_own, number_in}
 use Rattle.laws.specs.Laws.{TurnLaws}
 use Rattle.laws.specs.Sound.{Sound, RunsSound, RunsKeepLaws}
-use Rattle.laws.specs.Stamps.{IsStamp, Moves, StampLaws, RunsStamp}
+use Rattle.laws.specs.Clean.{IsStamp}
+use Rattle.laws.specs.Stamps.{Moves, StampLaws, RunsStamp}
 use Rattle.runs.specs.Runs.{Run, history_at}
 use Rattle.runs.specs.Steps.{LinkStep, HeadSteps.stays, MarkSteps.same, StepLaws, RunsStep}
 use Rattle.runs.proofs.Histories.{traced}
@@ -92,43 +90,30 @@ module _ (s : State) (z : Sound s) (w : ℕ) (b : w < s.sizes.workers) (c : Call
   pub begun_others : (v : ℕ) → ¬ (v ≡ w) → worker_at (state_begun s w (Ok c)) v ≡ worker_at s v
   begun_others v n = get_or-set_other s.workers w v (begun (worker_at s w) c) nobody n
 
-  own_counts : (k : Kind) → linked_of (begun (worker_at s w) c) k ≡ linked_of (worker_at s w) k
-  own_counts Vertex = refl
-  own_counts Edge = refl
-
-  -- a begin leaves the counts of linked rows
-  pub begun_counts : (v : ℕ) (k : Kind) → linked_of (worker_at (state_begun s w (Ok c)) v) k ≡ linked_of (worker_at s v) k
-  begun_counts v k =
-      ⊎_elim
-      (λ (e : v ≡ w). ap (λ u. linked_of (worker_at (state_begun s w (Ok c)) u) k) e ∙ ap (λ u. linked_of u k) begun_worker ∙ own_counts k ∙ ap (λ u. linked_of (worker_at s u) k) (sym e))
-      (λ (n : ¬ (v ≡ w)). ap (λ u. linked_of u k) (begun_others v n))
-      (cases_eq v w)
-
--- a state with the same cells, sizes and counts of linked rows
+-- a state with the same cells and sizes
 pub record SameRows (s t : State) : Type 0 where
   pub cells : t.cells ≡ s.cells
   pub sizes : t.sizes ≡ s.sizes
-  pub counts : (v : ℕ) (k : Kind) → linked_of (worker_at t v) k ≡ linked_of (worker_at s v) k
 
 module _ (s t : State) (e : SameRows s t) where
   pub rows_on : (k : Kind) (r : ℕ) → Linked s k r → Linked t k r
-  rows_on k r l = record { owner = l.owner; place = l.place; before = subst (λ n. l.place < n) (sym (e.counts l.owner k)) l.before; is = subst (λ z. row_at z k l.owner l.place ≡ Some r) (sym e.sizes) l.is }
+  rows_on k r l = subst (λ z. InChain z t.cells k r) (sym e.sizes) (subst (λ cs. InChain s.sizes cs k r) (sym e.cells) l)
 
   pub rows_back : (k : Kind) (r : ℕ) → Linked t k r → Linked s k r
-  rows_back k r l = record { owner = l.owner; place = l.place; before = subst (λ n. l.place < n) (e.counts l.owner k) l.before; is = subst (λ z. row_at z k l.owner l.place ≡ Some r) e.sizes l.is }
+  rows_back k r l = subst (λ z. InChain z s.cells k r) e.sizes (subst (λ cs. InChain t.sizes cs k r) e.cells l)
 
   pub numbers_same : (c : Cell) → number_in t c ≡ number_in s c
   numbers_same c = ap₂ (λ z cs. cell_at z cs c) e.sizes e.cells
 
 module _ (sound : RunsSound) (keep : RunsKeepLaws) (stamp : RunsStamp) (R : Run) where
   pub sound_at : (k : ℕ) → Sound (R.state k)
-  sound_at k = sound R.sizes R.cells R.room (history_at R k) (R.state k) (traced R k)
+  sound_at k = sound (R.state 0) R.clean (history_at R k) (R.state k) (traced R k)
 
-  pub stamps_at : (k : ℕ) → StampLaws (opened_state R.cells R.sizes) (history_at R k) (R.state k)
-  stamps_at k = stamp R.sizes R.cells R.room (history_at R k) (R.state k) (traced R k)
+  pub stamps_at : (k : ℕ) → StampLaws (R.state 0) (history_at R k) (R.state k)
+  stamps_at k = stamp (R.state 0) R.clean (history_at R k) (R.state k) (traced R k)
 
   pub sizes_at : (k : ℕ) → (R.state k).sizes ≡ R.sizes
-  sizes_at k = (stamps_at k).sizes
+  sizes_at k = (stamps_at k).sizes ∙ R.start
 
   pub case_at : (k : ℕ) → StepCase (R.state k) (R.request k) (R.state (suc k))
   case_at k = subst (StepCase (R.state k) (R.request k)) (sym (R.next k)) (step_case (R.state k) (R.request k))
@@ -153,8 +138,8 @@ module _ (sound : RunsSound) (keep : RunsKeepLaws) (stamp : RunsStamp) (R : Run)
     pub within : w < R.sizes.workers
     within = subst (λ (y : Sizes). w < y.workers) (sizes_at k) here
 
-    laws_at : TurnLaws (R.state k) w
-    laws_at = keep R.sizes R.cells R.room (history_at R k) (R.state k) (traced R k) w here
+    pub laws_at : TurnLaws (R.state k) w
+    laws_at = keep (R.state 0) R.clean (history_at R k) (R.state k) (traced R k) w here
 
     pub apart_at : (n : ℕ) → IsStamp R.sizes n → ¬ (n ≡ 0) × ¬ (n ≡ pending)
     apart_at = subst (λ z. (n : ℕ) → IsStamp z n → ¬ (n ≡ 0) × ¬ (n ≡ pending)) (sizes_at k) (stamps_at k).apart
@@ -174,8 +159,8 @@ module _ (sound : RunsSound) (keep : RunsKeepLaws) (stamp : RunsStamp) (R : Run)
   step_laws k = go (case_at k)
     where
       go : StepCase (R.state k) (R.request k) (R.state (suc k)) → StepLaws R k
-      go (keeps x f e) = still k (subst (SameRows (R.state k)) (sym e) (record { cells = refl; sizes = refl; counts = λ v k. refl }))
-      go (begins b c q a f e) = still k (subst (SameRows (R.state k)) (sym e) (record { cells = refl; sizes = refl; counts = begun_counts (R.state k) (sound_at k) b.worker (begin_taken (R.state k) b c a).within c }))
+      go (keeps x f e) = still k (subst (SameRows (R.state k)) (sym e) (record { cells = refl; sizes = refl }))
+      go (begins b c q a f e) = still k (subst (SameRows (R.state k)) (sym e) (record { cells = refl; sizes = refl }))
       go (turns w q n f e) = turning k w q n e
 
 pub runs_step : RunsSound → RunsKeepLaws → RunsStamp → RunsStep

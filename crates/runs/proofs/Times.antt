@@ -1,31 +1,25 @@
 -- What holds of a run from one time to a later one, by induction over time.
-use Rattle.std.proofs.Common.{◌≡◌, ℕ, zero, suc, ◌<◌, ◌≤◌, ◌⊎◌, List, get_or, drop, replicate, sym, refl, ap, ◌∙◌, subst, inl, inr, ⊎_elim, arith}
-use Rattle.std.proofs.lemmas.List.{length-replicate, get_or-set_other, get_or_append_left}
+use Rattle.std.proofs.Common.{◌≡◌, ℕ, zero, suc, ◌<◌, ◌≤◌, ◌⊎◌, get_or, replicate, sym, refl, ap, ◌∙◌, subst, inl, inr, ⊎_elim, arith}
 use Rattle.std.proofs.lemmas.Bool.{cases_lt}
 use Rattle.layout.specs.declared.names.Kind.{Kind}
-use Rattle.layout.specs.declared.names.Kind.TheVariants.{Vertex, Edge}
+use Rattle.layout.specs.declared.names.Kind.TheVariants.{Edge}
 use Rattle.layout.specs.declared.names.Field.{Field}
-use Rattle.layout.specs.declared.names.Field.TheVariants.{Ins}
+use Rattle.layout.specs.declared.names.Field.TheVariants.{Ins, Del}
 use Rattle.layout.specs.declared.names.Head.{Head}
 use Rattle.layout.specs.declared.names.Cell.TheVariants as cell
-use Rattle.layout.specs.declared.names.Head.TheVariants as head
 use Rattle.layout.specs.declared.sizes.Sizes.{Sizes}
-use Rattle.layout.specs.Layout.{index_of, needed, Named}
-use Rattle.layout.proofs.Regions.{index_lt}
+use Rattle.layout.specs.Layout.{Named}
 use Rattle.places.specs.declared.mark.Mark.{Mark}
 use Rattle.places.specs.declared.mark.Mark.TheVariants.{NotEnded, Pending, Stamp}
 use Rattle.places.specs.Touches.{change_head, head_kind}
 use Rattle.places.specs.Marks.{mark_of, pending}
-use Rattle.laws.specs.Changes.{number_in}
-use Rattle.laws.specs.Fits.{Linked}
-use Rattle.laws.specs.Stamps.{IsStamp, Holds, Holds.not_ended, Holds.waits, Holds.stamped, StampLaws, RunsStamp}
-use Rattle.stepper.specs.Opening.{cleared, opened_state}
-use Rattle.stepper.specs.Turns.{worker_at}
-use Rattle.stepper.specs.Workers.{fresh, nobody, linked_of}
+use Rattle.laws.specs.Clean.{IsStamp, Stands}
+use Rattle.laws.proofs.Clean.{top_of, clean_heads}
+use Rattle.laws.specs.Stamps.{Holds, Holds.not_ended, Holds.waits, Holds.stamped, StampLaws, RunsStamp}
 use Rattle.runs.specs.Runs.{Run, history_at}
 use Rattle.runs.specs.Views.{number_at, clock_at, head_at, mark_at, LinkedAt}
 use Rattle.runs.specs.Steps.{HeadSteps, HeadSteps.stays, HeadSteps.moves, MarkSteps, MarkSteps.same, MarkSteps.settled, MarkSteps.ended, Links, RunsStep}
-use Rattle.runs.specs.Times.{Past, LinkedBy, TimeLaws, LastingLaws, RunsLast}
+use Rattle.runs.specs.Times.{Past, LinkedBy, TimeLaws, OldRow, LastingLaws, RunsLast}
 use Rattle.runs.proofs.Histories.{traced}
 use Rattle.runs.proofs.TurnSteps.{mark_stamp}
 
@@ -91,59 +85,62 @@ copies P zero i x d a b = b
 copies P (suc m) zero x d a b = a
 copies P (suc m) (suc i) x d a b = copies P m i x d a b
 
-not_first : (z : Sizes) (h : Head) → ¬ (index_of z (cell.Head h) ≡ 0)
-not_first z (head.Vertex i) e = omega arith
-not_first z (head.Edge i j) e = omega arith
-
--- the opening has no rows
-module _ (z : Sizes) (cs : List ℕ) where
-  opened_counts : (v : ℕ) (k : Kind) → linked_of (worker_at (opened_state cs z) v) k ≡ 0
-  opened_counts v Vertex = copies (λ u. linked_of u Vertex ≡ 0) 8 v fresh nobody refl refl
-  opened_counts v Edge = copies (λ u. linked_of u Edge ≡ 0) 8 v fresh nobody refl refl
-
-  opened_head : (h : Head) → Named z (cell.Head h) → number_in (opened_state cs z) (cell.Head h) ≡ 0
-  opened_head h n =
-      get_or-set_other (cleared (needed z) cs) 0 (index_of z (cell.Head h)) 1 0 (not_first z h)
-      ∙ get_or_append_left (replicate (needed z) 0) (drop (needed z) cs) 0 (index_of z (cell.Head h)) (simp length-replicate (index_lt z (cell.Head h) n))
-      ∙ copies (λ (x : ℕ). x ≡ 0) (needed z) (index_of z (cell.Head h)) 0 0 refl refl
-
-  opened_linked : (k : Kind) (r : ℕ) → ¬ (Linked (opened_state cs z) k r)
-  opened_linked k r l = omega (arith, l.before, opened_counts l.owner k)
-
 module _ (stamp : RunsStamp) (step : RunsStep) (R : Run) where
-  none_linked : (c : Kind) (r : ℕ) → ¬ (LinkedAt R zero c r)
-  none_linked c r l = opened_linked R.sizes R.cells c r (subst (λ s. Linked s c r) R.start l)
-
-  no_head : (h : Head) → Named R.sizes (cell.Head h) → head_at R zero h ≡ 0
-  no_head h n = subst (λ s. number_in s (cell.Head h) ≡ 0) (sym R.start) (opened_head R.sizes R.cells h n)
-
-  head_linked : (k : ℕ) (h : Head) → Named R.sizes (cell.Head h) → 0 < head_at R k h → Past k (λ p. LinkedBy R p h (head_at R k h))
-  head_linked k h n l =
-      ⊎_elim (λ (e : head_at R k h ≡ head_at R zero h). absurd (omega (arith, e, no_head h n, l)))
-      (λ (p : Past k (λ p. (zero ≤ p) × LinkedBy R p h (head_at R k h))). record { time = p.time; before = p.before; held = p.held.1 })
-      ((time_laws step R zero k (omega arith)).head h n)
-
-  was_linked : (k : ℕ) (c : Kind) (r : ℕ) → LinkedAt R k c r → Past k (λ p. (h : Head) × (head_kind h ≡ c) × LinkedBy R p h r)
-  was_linked zero c r l = absurd (none_linked c r l)
-  was_linked (suc k) c r l =
-      ⊎_elim (λ (o : LinkedAt R k c r). past_later (omega arith) (was_linked k c r o))
-      (λ (m : Links R k c r). record { time = k; before = omega arith; held = (change_head m.change, m.kind, record { change = m.change; head = refl; step = m.step }) })
-      ((step R k).news c r l)
-
-  stamps_at : (k : ℕ) → StampLaws (opened_state R.cells R.sizes) (history_at R k) (R.state k)
-  stamps_at k = stamp R.sizes R.cells R.room (history_at R k) (R.state k) (traced R k)
+  stamps_at : (k : ℕ) → StampLaws (R.state 0) (history_at R k) (R.state k)
+  stamps_at k = stamp (R.state 0) R.clean (history_at R k) (R.state k) (traced R k)
 
   ins_holds : (z : Sizes) (x : ℕ) → ((n : ℕ) → IsStamp z n → ¬ (n ≡ 0) × ¬ (n ≡ pending)) → Holds z Ins x → ¬ (mark_of x ≡ NotEnded)
   ins_holds z x a (not_ended e q) g = absurd cc
   ins_holds z x a (waits e) g = let p : mark_of x ≡ Pending = ap mark_of e in absurd cc
   ins_holds z x a (stamped i) g = let p : mark_of x ≡ Stamp x = mark_stamp x (a x i) in absurd cc
 
+  -- the rows at the start
+  start_stamp : (h : Head) → Stands (R.state 0) h → mark_at R zero (head_kind h) Ins (head_at R zero h) ≡ Stamp (number_at R zero (cell.Stamp (head_kind h) Ins (head_at R zero h)))
+  start_stamp h x = let n : ℕ = number_at R zero (cell.Stamp (head_kind h) Ins (head_at R zero h)) in mark_stamp n ((stamps_at zero).apart n (x.stamp, omega (arith, x.born, R.clean.clock.1)))
+
+  old_row : (c : Kind) (r : ℕ) → LinkedAt R zero c r → OldRow R c r
+  old_row c r l =
+      let t = top_of (R.state 0) R.clean c r l in
+      record {
+        head = t.head;
+        named = subst (λ z. Named z (cell.Head t.head)) R.start t.named;
+        kind = t.kind;
+        is = t.is;
+        number = number_at R zero (cell.Stamp c Ins r);
+        stamp = subst (λ (j : Kind). mark_at R zero j Ins r ≡ Stamp (number_at R zero (cell.Stamp j Ins r))) t.kind
+            (subst (λ n. mark_at R zero (head_kind t.head) Ins n ≡ Stamp (number_at R zero (cell.Stamp (head_kind t.head) Ins n))) t.is (start_stamp t.head t.stands));
+        low = subst (λ (j : Kind). number_at R zero (cell.Stamp j Ins r) ≤ clock_at R zero) t.kind (subst (λ n. number_at R zero (cell.Stamp (head_kind t.head) Ins n) ≤ clock_at R zero) t.is t.stands.born);
+        alive = subst (λ (j : Kind). mark_at R zero j Del r ≡ NotEnded) t.kind (subst (λ n. mark_at R zero (head_kind t.head) Del n ≡ NotEnded) t.is (ap mark_of t.stands.alive));
+      }
+
+  old_head : (h : Head) → Named R.sizes (cell.Head h) → 0 < head_at R zero h → LinkedAt R zero (head_kind h) (head_at R zero h)
+  old_head h n l =
+      ⊎_elim (λ (e : head_at R zero h ≡ 0). absurd (omega arith)) (λ (x : LinkedAt R zero (head_kind h) (head_at R zero h)). x)
+      (clean_heads (R.state 0) R.clean h (subst (λ z. Named z (cell.Head h)) (sym R.start) n))
+
+  head_linked : (k : ℕ) (h : Head) → Named R.sizes (cell.Head h) → 0 < head_at R k h → (head_at R k h ≡ head_at R zero h) ⊎ Past k (λ p. LinkedBy R p h (head_at R k h))
+  head_linked k h n l =
+      ⊎_elim (λ (e : head_at R k h ≡ head_at R zero h). inl e)
+      (λ (p : Past k (λ p. (zero ≤ p) × LinkedBy R p h (head_at R k h))). inr (record { time = p.time; before = p.before; held = p.held.1 }))
+      ((time_laws step R zero k (omega arith)).head h n)
+
+  abbrev WasLinked : ℕ → Kind → ℕ → Type 0
+  WasLinked k c r = Past k (λ p. (h : Head) × (head_kind h ≡ c) × LinkedBy R p h r)
+
+  was_linked : (k : ℕ) (c : Kind) (r : ℕ) → LinkedAt R k c r → LinkedAt R zero c r ⊎ WasLinked k c r
+  was_linked zero c r l = inl l
+  was_linked (suc k) c r l =
+      ⊎_elim
+      (λ (o : LinkedAt R k c r). ⊎_elim (λ (x : LinkedAt R zero c r). inl x) (λ (x : WasLinked k c r). inr (past_later (omega arith) x)) (was_linked k c r o))
+      (λ (m : Links R k c r). inr (record { time = k; before = omega arith; held = (change_head m.change, m.kind, record { change = m.change; head = refl; step = m.step }) }))
+      ((step R k).news c r l)
+
   pub lasting_laws : LastingLaws R
   lasting_laws = record {
     times = time_laws step R;
-    clock = λ k. subst (λ z. IsStamp z (clock_at R k)) (stamps_at k).sizes (stamps_at k).clock;
-    none_linked = none_linked;
-    no_head = no_head;
+    clock = λ k. subst (λ z. IsStamp z (clock_at R k)) ((stamps_at k).sizes ∙ R.start) (stamps_at k).clock;
+    old_row = old_row;
+    old_head = old_head;
     head = head_linked;
     linked = was_linked;
     filled = λ k c r l. ins_holds (R.state k).sizes (number_at R k (cell.Stamp c Ins r)) (stamps_at k).apart ((stamps_at k).fields c Ins r l);

@@ -1,6 +1,6 @@
 -- One turn as a step of a run.
-use Rattle.std.proofs.Common.{◌≡◌, ℕ, suc, ◌<◌, ◌≤◌, ◌⊎◌, Some, None, sym, refl, ap, ◌∙◌, subst, inl, inr, ⊎_elim, arith}
-use Rattle.std.proofs.lemmas.Bool.{ne_eqb, cases_eq, cases_lt}
+use Rattle.std.proofs.Common.{◌≡◌, ℕ, suc, ◌<◌, ◌≤◌, ◌⊎◌, Some, None, sym, refl, ap, ◌∙◌, subst, inl, inr, arith}
+use Rattle.std.proofs.lemmas.Bool.{ne_eqb}
 use Rattle.layout.specs.declared.names.Kind.{Kind}
 use Rattle.layout.specs.declared.names.Kind.TheVariants.{Edge}
 use Rattle.layout.specs.declared.names.Field.{Field}
@@ -10,7 +10,6 @@ use Rattle.layout.specs.declared.names.Cell.{Cell}
 use Rattle.layout.specs.declared.names.Cell.TheVariants as cell
 use Rattle.layout.specs.declared.sizes.Sizes.{Sizes}
 use Rattle.layout.specs.Layout.{Named, IsRow}
-use Rattle.layout.specs.Rows.{row_at}
 use Rattle.places.specs.declared.mark.Mark.TheVariants.{NotEnded, Pending, Stamp}
 use Rattle.places.specs.declared.place.Change.{Change}
 use Rattle.places.specs.declared.place.Change.TheVariants as change
@@ -20,23 +19,23 @@ use Rattle.places.specs.declared.place.Place.{Place}
 use Rattle.places.specs.declared.place.Place.TheVariants as place
 use Rattle.places.specs.declared.place.Stage.TheVariants as stage
 use Rattle.places.specs.Marks.{pending, mark_of}
-use Rattle.places.specs.Touches.{change_head, change_kind, settled_field}
+use Rattle.places.specs.Touches.{head_kind, change_head, change_kind, settled_field}
 use Rattle.stepper.specs.declared.request.Request.TheVariants.{Turn}
 use Rattle.stepper.specs.States.{State}
 use Rattle.stepper.specs.Effects.{filled, linked_cells}
 use Rattle.stepper.specs.Turns.{worker_at, cell_at, followed_at, turned}
-use Rattle.stepper.specs.Workers.{at, more, counted, linked_of}
-use Rattle.laws.specs.Fits.{Linked, FitChange, FitPlace}
+use Rattle.stepper.specs.Workers.{at, counted}
+use Rattle.laws.specs.Fits.{Linked, InChain.at_head, InChain.below, FitChange, FitPlace}
 use Rattle.laws.specs.Changes.{next_own, number_in, Changes, Changes.keeps, Changes.ticks, Changes.links, Changes.stamps, Changes.ends, Changes.fills, Changes.writes}
 use Rattle.laws.specs.Laws.{TurnLaws}
 use Rattle.laws.specs.Sound.{Sound}
-use Rattle.laws.specs.Stamps.{IsStamp, field_start, Moves, Moves.same, Moves.ended, Moves.settled}
+use Rattle.laws.specs.Clean.{IsStamp}
+use Rattle.laws.specs.Stamps.{field_start, Moves, Moves.same, Moves.ended, Moves.settled}
 use Rattle.runs.specs.Runs.{Run}
 use Rattle.runs.specs.Views.{head_at}
 use Rattle.runs.specs.Steps.{TurnAt, BoundAt, LinkStep, HeadSteps, HeadSteps.stays, HeadSteps.moves, MarkSteps, MarkSteps.same, MarkSteps.settled, MarkSteps.ended, Links, StepLaws}
-use Rattle.runs.proofs.Counts.{count_grows, count_other, same_or_other}
-use Rattle.runs.proofs.Links.{linked_is_row, next_is_row, next_not_linked, few_before, filled_older, filled_source, filled_target, filled_weight, linked_head, linked_cell}
-use Rattle.runs.proofs.Turns.{change_named, LinkTurn, LinkTurn.spent, LinkTurn.lost, LinkTurn.won, TurnLinks, TurnLinks.none_linked, TurnLinks.one_linked, worker_after, others_after, link_turn, turn_links}
+use Rattle.runs.proofs.Links.{linked_is_row, next_is_row, next_not_used, filled_older, filled_source, filled_target, filled_weight, linked_head, linked_cell}
+use Rattle.runs.proofs.Turns.{change_named, LinkTurn, LinkTurn.spent, LinkTurn.lost, LinkTurn.won, link_turn}
 
 pub mark_stamp : (n : ℕ) → ¬ (n ≡ 0) × ¬ (n ≡ pending) → mark_of n ≡ Stamp n
 mark_stamp n a = rw (ne_eqb n 0 a.0, ne_eqb n pending a.1) refl
@@ -72,25 +71,6 @@ module _ (R : Run) (k w : ℕ) (asked : R.request k ≡ Turn w) (b : w < R.sizes
   turn_at : (p : Place) → (worker_at s w).place ≡ p → TurnAt R k w p
   turn_at p e = record { asked = asked; within = b; place = e }
 
-  -- linked rows stay linked
-  stays_linked : (c : Kind) (r : ℕ) → Linked s c r → Linked t c r
-  stays_linked c r l = record { owner = l.owner; place = l.place; before = go (turn_links s w z here) (cases_eq l.owner w); is = l.is }
-    where
-      less : (n m : ℕ) → l.place < n → l.place < 2048 → m ≡ more n → l.place < m
-      less n m h f e = omega arith
-
-      own : TurnLinks s w → l.place < linked_of (worker_at s w) c → l.place < linked_of (followed_at s w).worker c
-      own (none_linked e) h = subst (λ n. l.place < n) (sym (e c)) h
-      own (one_linked d o q p i g v x) h =
-          ⊎_elim
-          (λ (e : change_kind d ≡ c). less (linked_of (worker_at s w) c) _ h (few_before s.sizes c l.owner l.place r l.is) (ap (λ u. linked_of u c) v ∙ subst (λ (y : Kind). linked_of (counted (worker_at s w) (change_kind d)) y ≡ more (linked_of (worker_at s w) y)) e (count_grows (worker_at s w) (change_kind d))))
-          (λ (n : ¬ (change_kind d ≡ c)). subst (λ n. l.place < n) (sym (ap (λ u. linked_of u c) v ∙ count_other (worker_at s w) (change_kind d) c n)) h)
-          (same_or_other (change_kind d) c)
-
-      go : TurnLinks s w → (l.owner ≡ w) ⊎ ¬ (l.owner ≡ w) → l.place < linked_of (worker_at t l.owner) c
-      go a (inl e) = subst (λ v. l.place < linked_of (worker_at t v) c) (sym e) (subst (λ u. l.place < linked_of u c) (sym (worker_after s w z here)) (own a (subst (λ v. l.place < linked_of (worker_at s v) c) e l.before)))
-      go a (inr n) = subst (λ u. l.place < linked_of u c) (sym (others_after s w z here l.owner n)) l.before
-
   fits : (d : Change) (h : ℕ) → (worker_at s w).place ≡ place.Link d h → FitChange s d
   fits d h e = let f : FitPlace s (place.Link d h) = subst (FitPlace s) e (z.places w here) in f.0
 
@@ -103,14 +83,8 @@ module _ (R : Run) (k w : ℕ) (asked : R.request k ≡ Turn w) (b : w < R.sizes
     top : Named s.sizes (cell.Head (change_head d))
     top = change_named s d (fits d h p)
 
-    now_linked : Linked t (change_kind d) r
-    now_linked =
-        let n : ℕ = linked_of (worker_at s w) (change_kind d) in
-        let e : linked_of (worker_at t w) (change_kind d) ≡ more n = ap (λ u. linked_of u (change_kind d)) (worker_after s w z here ∙ v) ∙ count_grows (worker_at s w) (change_kind d) in
-        record { owner = w; place = n; before = omega (arith, few_before s.sizes (change_kind d) w n r q); is = q }
-
     not_linked : ¬ (Linked s (change_kind d) r)
-    not_linked = next_not_linked s w (change_kind d) r q
+    not_linked l = next_not_used s w (change_kind d) r q (z.counted (change_kind d) r l)
 
     -- a cell of the new row
     holds : (c : Cell) (y : ℕ) → Named s.sizes c → ¬ (c ≡ cell.Head (change_head d)) → cell_at s.sizes (filled s.sizes s.cells d h r) c ≡ y → number_in t c ≡ y
@@ -118,6 +92,9 @@ module _ (R : Run) (k w : ℕ) (asked : R.request k ≡ Turn w) (b : w < R.sizes
 
     head_now : number_in t (cell.Head (change_head d)) ≡ r
     head_now = ap (λ cs. cell_at s.sizes cs (cell.Head (change_head d))) x ∙ linked_head s.sizes s.cells z.cells h r d row top g
+
+    now_linked : Linked t (change_kind d) r
+    now_linked = at_head (change_head d) r top refl head_now row
 
     older_now : number_in t (cell.Older (change_kind d) r) ≡ number_in s (cell.Head (change_head d))
     older_now = holds (cell.Older (change_kind d) r) h row (λ e. absurd cc) (filled_older s.sizes s.cells z.cells h r d row) ∙ sym g
@@ -173,36 +150,53 @@ module _ (R : Run) (k w : ℕ) (asked : R.request k ≡ Turn w) (b : w < R.sizes
           moves d same_head (subst (LinkStep R k d) (sym (st.head) ∙ ap (head_at R (suc k)) same_head) st)
   head_step h y o (stamps p e i q) = absurd (no_settled_head h p i)
   head_step h y o (ends d r e i a b) = absurd cc
-  head_step h y o (fills c r p i) = absurd i
-  head_step h y o (writes i) = absurd i
+  head_step h y o (fills c r p i b) = absurd i
+  head_step h y o (writes i q) = absurd i
+
+  -- what holds at the next time holds of the state after the turn
+  back : (P : State → Type 0) → P (R.state (suc k)) → P t
+  back P h = subst P step h
+
+  head_steps : (h : Head) → Named s.sizes (cell.Head h) → HeadSteps R k h (head_at R (suc k) h)
+  head_steps h n = head_step h _ refl (laws.changes (cell.Head h) n)
+
+  older_stays : (c : Kind) (q : ℕ) → Linked s c q → number_in t (cell.Older c q) ≡ number_in s (cell.Older c q)
+  older_stays c q l = laws.older c q (linked_is_row s c q l) l
+
+  -- linked rows stay linked
+  stays_linked : (c : Kind) (r : ℕ) → Linked s c r → Linked t c r
+  stays_linked c r (at_head h _ n e f l) = go (head_steps h n)
+    where
+      go : HeadSteps R k h (head_at R (suc k) h) → Linked t c r
+      go (stays y) = at_head h r n e (back (λ u. number_in u (cell.Head h) ≡ number_in s (cell.Head h)) y ∙ f) l
+      go (moves d q st) =
+          let g : change_kind d ≡ c = ap head_kind q ∙ e in
+          let y : ℕ = head_at R (suc k) h in
+          let over : number_in t (cell.Older (change_kind d) y) ≡ number_in s (cell.Head (change_head d)) = back (λ u. number_in u (cell.Older (change_kind d) y) ≡ number_in s (cell.Head (change_head d))) st.older in
+          below y r (subst (λ (j : Kind). Linked t j y) g (back (λ u. Linked u (change_kind d) y) st.linked))
+          (subst (λ (j : Kind). number_in t (cell.Older j y) ≡ number_in s (cell.Head (change_head d))) g over ∙ ap (λ a. number_in s (cell.Head a)) q ∙ f) l
+  stays_linked c r (below q _ x f l) = below q r (stays_linked c q x) (older_stays c q x ∙ f) l
+
+  step_named : (d : Change) (r : ℕ) → LinkStep R k d r → Named s.sizes (cell.Head (change_head d))
+  step_named d r st =
+      let f : FitPlace s (place.Link d (head_at R k (change_head d))) = subst (FitPlace s) st.turn.place (z.places st.worker (subst (λ (y : Sizes). st.worker < y.workers) (sym same_sizes) st.turn.within)) in
+      change_named s d f.0
 
   -- a row that is linked now was linked before, or is new
   new_row : (c : Kind) (r : ℕ) → Linked t c r → Linked s c r ⊎ Links R k c r
-  new_row c r l = go (cases_eq l.owner w)
+  new_row c r (at_head h _ n e f l) = go (head_steps h n)
     where
-      before : (v m : ℕ) → l.owner ≡ v → l.place < linked_of (worker_at s v) c → Linked s c r ⊎ Links R k c r
-      before v m e h = inl (record { owner = v; place = l.place; before = h; is = subst (λ o. row_at s.sizes c o l.place ≡ Some r) e l.is })
-
-      own : TurnLinks s w → l.owner ≡ w → l.place < linked_of (followed_at s w).worker c → Linked s c r ⊎ Links R k c r
-      own (none_linked f) e h = before w 0 e (subst (λ m. l.place < m) (f c) h)
-      own (one_linked d o q p p′ g v x) e h =
-          ⊎_elim
-          (λ (a : change_kind d ≡ c).
-          ⊎_elim
-          (λ (y : l.place < linked_of (worker_at s w) c). before w 0 e y)
-          (λ (y : linked_of (worker_at s w) c ≤ l.place).
-          let grown : linked_of (followed_at s w).worker c ≡ more (linked_of (worker_at s w) c) = ap (λ u. linked_of u c) v ∙ subst (λ (u : Kind). linked_of (counted (worker_at s w) (change_kind d)) u ≡ more (linked_of (worker_at s w) u)) a (count_grows (worker_at s w) (change_kind d)) in
-          let same_place : l.place ≡ linked_of (worker_at s w) c = omega arith in
-          let next_row : next_own s w c ≡ Some r = subst (λ m. row_at s.sizes c w m ≡ Some r) same_place (subst (λ u. row_at s.sizes c u l.place ≡ Some r) e l.is) in
-          let same_next : q ≡ r = same_row (sym p′ ∙ ap (next_own s w) a ∙ next_row) in
-          inr (record { change = d; kind = a; step = subst (LinkStep R k d) same_next (linking d o q p p′ g v x) }))
-          (cases_lt l.place (linked_of (worker_at s w) c)))
-          (λ (a : ¬ (change_kind d ≡ c)). before w 0 e (subst (λ m. l.place < m) (ap (λ u. linked_of u c) v ∙ count_other (worker_at s w) (change_kind d) c a) h))
-          (same_or_other (change_kind d) c)
-
-      go : (l.owner ≡ w) ⊎ ¬ (l.owner ≡ w) → Linked s c r ⊎ Links R k c r
-      go (inl e) = own (turn_links s w z here) e (subst (λ u. l.place < linked_of u c) (worker_after s w z here) (subst (λ v. l.place < linked_of (worker_at t v) c) e l.before))
-      go (inr a) = before l.owner 0 refl (subst (λ u. l.place < linked_of u c) (others_after s w z here l.owner a) l.before)
+      go : HeadSteps R k h (head_at R (suc k) h) → Linked s c r ⊎ Links R k c r
+      go (stays y) = inl (at_head h r n e (sym (back (λ u. number_in u (cell.Head h) ≡ number_in s (cell.Head h)) y) ∙ f) l)
+      go (moves d q st) = inr (record { change = d; kind = ap head_kind q ∙ e; step = subst (LinkStep R k d) (next_time (λ u. number_in u (cell.Head h) ≡ r) f) st })
+  new_row c r (below q _ x f l) = go (new_row c q x)
+    where
+      go : Linked s c q ⊎ Links R k c q → Linked s c r ⊎ Links R k c r
+      go (inl o) = inl (below q r o (sym (older_stays c q o) ∙ f) l)
+      go (inr m) =
+          let d : Change = m.change in
+          let over : number_in t (cell.Older (change_kind d) q) ≡ number_in s (cell.Head (change_head d)) = back (λ u. number_in u (cell.Older (change_kind d) q) ≡ number_in s (cell.Head (change_head d))) m.step.older in
+          inl (at_head (change_head d) r (step_named d q m.step) m.kind (sym (subst (λ (j : Kind). number_in t (cell.Older j q) ≡ number_in s (cell.Head (change_head d))) m.kind over) ∙ f) l)
 
   -- ins and del of a linked row
   mark_step : (c : Kind) (f : Field) (r x y : ℕ) → Linked s c r → Changes s w (cell.Stamp c f r) x y → Moves R.sizes f x y → MarkSteps R k c f r (mark_of x) (mark_of y)
@@ -214,8 +208,8 @@ module _ (R : Run) (k w : ℕ) (asked : R.request k ≡ Turn w) (b : w < R.sizes
   mark_step c f r x y l (stamps p e i q) (settled h g) = settled w y p (turn_at (place.Settle (stage.Swap y) p) e) (sym i) g (ap mark_of q) (mark_stamp y (apart y g))
   mark_step c f r x y l (ends d q e i a h) m = let same_field : f ≡ Del = cc in let same_kind : change_kind d ≡ c = cc in let same_number : q ≡ r = cc in
       ended w d (turn_at (place.End d r) (subst (λ n. (worker_at s w).place ≡ place.End d n) same_number e)) same_kind same_field (ap mark_of a) (ap mark_of h)
-  mark_step c f r x y l (fills j q p o) m = absurd (next_not_linked s w j q p (subst (λ (u : Kind). Linked s u q) o.0 (subst (Linked s c) o.1 l)))
-  mark_step c f r x y l (writes o) m = absurd o
+  mark_step c f r x y l (fills j q p o b) m = absurd (next_not_used s w j q p (z.counted j q (subst (λ (u : Kind). Linked s u q) o.0 (subst (Linked s c) o.1 l))))
+  mark_step c f r x y l (writes o q) m = absurd o
 
   named_row : (c : Kind) (r : ℕ) → Linked s c r → IsRow s.sizes c r
   named_row c r l = linked_is_row s c r l

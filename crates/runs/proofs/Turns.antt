@@ -1,12 +1,11 @@
 -- What a turn does about links: it links no row, or it is a link turn that won.
-use Rattle.std.proofs.Common.{◌≡◌, ℕ, ◌<◌, Bool, true, false, eqb, length, Some, None, Option, sym, refl, ap, ap₂, ◌∙◌, subst, arith}
+use Rattle.std.proofs.Common.{◌≡◌, ℕ, ◌<◌, Bool, true, false, eqb, length, Some, None, Option, refl, ap, ap₂, ◌∙◌, subst, arith}
 use Rattle.std.proofs.lemmas.Bool.{eqb-true, eqb-false}
 use Rattle.std.proofs.lemmas.List.{get_or-set_same, get_or-set_other}
 use Rattle.std.specs.Bool.{then_some}
 use Rattle.std.specs.Option.{is_some}
 use Rattle.std.specs.declared.ops.ControlFlow.TheVariants.{Break}
 use Rattle.codes.specs.declared.answer.Answer.TheVariants.{RowsSpent}
-use Rattle.layout.specs.declared.names.Kind.{Kind}
 use Rattle.layout.specs.declared.names.Field.TheVariants.{Ins}
 use Rattle.layout.specs.declared.names.Cell.TheVariants as cell
 use Rattle.layout.specs.Layout.{Named}
@@ -26,11 +25,10 @@ use Rattle.places.specs.Nexts.{link_done as next_link, next_of}
 use Rattle.stepper.specs.States.{State}
 use Rattle.stepper.specs.Effects.{link_done, linked_cells, got_of, cells_after, entered}
 use Rattle.stepper.specs.Turns.{worker_at, spare_for, hand_of, hand_at, touch_at, next_at, followed_at, turned}
-use Rattle.stepper.specs.Workers.{nobody, at, linked_of, counted, followed}
+use Rattle.stepper.specs.Workers.{nobody, at, counted, followed}
 use Rattle.laws.specs.Fits.{FitChange, FitPlace}
 use Rattle.laws.specs.Changes.{next_own, number_in}
 use Rattle.laws.specs.Sound.{Sound}
-use Rattle.runs.proofs.Counts.{LinksNone, next_links_none, count_stays}
 use Rattle.runs.proofs.Links.{next_is_row, link_says}
 
 pub change_named : (s : State) (d : Change) → FitChange s d → Named s.sizes (cell.Head (change_head d))
@@ -56,11 +54,6 @@ module _ (s : State) (w : ℕ) where
     spent : next_own s w (change_kind d) ≡ None → next_at s w ≡ next.Out (Break RowsSpent) → LinkTurn d h
     lost : (r : ℕ) → next_own s w (change_kind d) ≡ Some r → ¬ (number_in s (cell.Head (change_head d)) ≡ h) → next_at s w ≡ next.Out (lost_link d) → LinkTurn d h
     won : (r : ℕ) → next_own s w (change_kind d) ≡ Some r → number_in s (cell.Head (change_head d)) ≡ h → next_at s w ≡ next.Linked d r → (followed_at s w).worker ≡ at (counted (worker_at s w) (change_kind d)) (place.Settle stage.First (purpose.Own Ins d r)) → (turned s w).cells ≡ linked_cells s.sizes s.cells d h r → LinkTurn d h
-
-  pub data TurnLinks : Type 0 where
-    none_linked : ((k : Kind) → linked_of (followed_at s w).worker k ≡ linked_of (worker_at s w) k) → TurnLinks
-    one_linked : (d : Change) (h r : ℕ) → (worker_at s w).place ≡ place.Link d h → next_own s w (change_kind d) ≡ Some r → number_in s (cell.Head (change_head d)) ≡ h
-        → (followed_at s w).worker ≡ at (counted (worker_at s w) (change_kind d)) (place.Settle stage.First (purpose.Own Ins d r)) → (turned s w).cells ≡ linked_cells s.sizes s.cells d h r → TurnLinks
 
 pub is_done : (b : Bool) (x : ℕ) → is_some (then_some b x) ≡ b
 is_done true x = refl
@@ -103,19 +96,3 @@ module _ (s : State) (w : ℕ) (z : Sound s) (b : w < s.sizes.workers) where
         go : (o : Option ℕ) → next_own s w (change_kind d) ≡ o → LinkTurn s w d h
         go None q = spent q (next_is s w (place.Link d h) e ∙ ap link_from q)
         go (Some r) q = decided r q (eqb (number_in s (cell.Head (change_head d))) h) refl
-
-    -- the same, for the counts
-    counts_of : LinkTurn s w d h → TurnLinks s w
-    counts_of (spent q x) = none_linked (λ k. count_stays s.sizes.keys (worker_at s w) (hand_at s w) (next_at s w) k (subst LinksNone (sym x) tt))
-    counts_of (lost r q n x) = none_linked (λ k. count_stays s.sizes.keys (worker_at s w) (hand_at s w) (next_at s w) k (subst LinksNone (sym x) tt))
-    counts_of (won r q g x v c) = one_linked d h r e q g v c
-
-  pub turn_links : TurnLinks s w
-  turn_links = go (worker_at s w).place refl
-    where
-      none : (p : Place) → (worker_at s w).place ≡ p → LinksNone (next_from s w p) → TurnLinks s w
-      none p e l = none_linked (λ k. count_stays s.sizes.keys (worker_at s w) (hand_at s w) (next_at s w) k (subst LinksNone (sym (next_is s w p e)) l))
-
-      go : (p : Place) → (worker_at s w).place ≡ p → TurnLinks s w
-      go (place.Link d h) e = counts_of d h e (link_turn d h e)
-      go p e = none p e (next_links_none p (hand_of s.sizes s.cells w (worker_at s w) p) (got_of s.sizes s.cells (touch_from s w p)) tt)

@@ -1,11 +1,15 @@
 -- What a call finds of the vertex of a key.
-use Rattle.std.proofs.Common.{◌≡◌, ℕ, suc, ◌<◌, ◌≤◌, true, false, ◌⊎◌, sym, refl, ap, ◌∙◌, subst, inl, inr, ⊎_elim, arith}
+use Rattle.std.proofs.Common.{◌≡◌, ℕ, suc, ◌<◌, ◌≤◌, true, false, ◌⊎◌, sym, refl, ap, ap₂, ◌∙◌, subst, inl, inr, ⊎_elim, arith}
 use Rattle.std.proofs.lemmas.Bool.{cases_lt, cases_eq}
 use Rattle.layout.specs.declared.names.Kind.{Kind}
 use Rattle.layout.specs.declared.names.Kind.TheVariants.{Vertex}
 use Rattle.layout.specs.declared.names.Field.{Field}
 use Rattle.layout.specs.declared.names.Field.TheVariants.{Ins, Del}
+use Rattle.layout.specs.declared.names.Head.{Head}
 use Rattle.layout.specs.declared.names.Head.TheVariants as head
+use Rattle.layout.specs.declared.names.Cell.TheVariants as cell
+use Rattle.layout.specs.Layout.{Named}
+use Rattle.places.specs.Touches.{head_kind}
 use Rattle.layout.specs.declared.sizes.Sizes.{Sizes}
 use Rattle.layout.specs.Rows.{rows_all}
 use Rattle.places.specs.declared.mark.Mark.TheVariants.{NotEnded, Stamp}
@@ -19,18 +23,17 @@ use Rattle.runs.specs.Runs.{Run}
 use Rattle.runs.specs.Views.{clock_at, head_at, mark_at, LinkedAt}
 use Rattle.runs.specs.Seen.{open_at}
 use Rattle.runs.specs.Steps.{RunsStep}
-use Rattle.runs.specs.Times.{RunsLast}
+use Rattle.runs.specs.Times.{Past, RunsLast}
 use Rattle.runs.specs.Known.{TurnOf, Stamped, Dead, Living, LinkEvent, ChangeEvent}
 use Rattle.runs.specs.Reasons.{RunsKnow}
 use Rattle.runs.specs.Events.{Linking, Ending, RunsEvents}
-use Rattle.runs.specs.Marking.{time_bound, MarksTell}
+use Rattle.runs.specs.Marking.{ins_of, time_bound, MarksTell}
 use Rattle.runs.specs.VertexFinds.{turn_key, after_key, MadeNone, VertexFinds, RunsFindVertices}
 use Rattle.runs.proofs.Links.{linked_is_row}
 use Rattle.runs.proofs.Steps.{sizes_at}
 use Rattle.runs.proofs.Heads.{row_pos, stays_or_dead}
-use Rattle.runs.proofs.Events.{worker_knows, stamp_kept, clock_later, linked_later, linked_from, living_link}
-use Rattle.runs.proofs.Births.{vertex_change, Birth, End, born_or, ended_or, birth_now, ended_by, ends_after, living_birth}
-use Rattle.runs.proofs.MarkLaws.{earlier}
+use Rattle.runs.proofs.Events.{worker_knows, stamp_kept, clock_later, linked_later, living_from}
+use Rattle.runs.proofs.Births.{earlier, vertex_change, LinkBirth, Way, Way.from_start, Way.by_link, Birth, End, old_is, birth, born_or, ended_or, birth_now, link_now, ended_by, ends_after, living_birth}
 use Rattle.runs.proofs.Once.{by_turn, same_turner, same_some}
 
 then_earlier : (x y z : Mark) → Earlier x y → Earlier y z → Earlier x z
@@ -38,6 +41,29 @@ then_earlier x y z (inl a) (inl b) = inl (omega arith)
 then_earlier x y z (inl a) (inr b) = inl (omega (arith, b.0))
 then_earlier x y z (inr a) (inl b) = inl (omega (arith, a.0))
 then_earlier x y z (inr a) (inr b) = inr (a.0 ∙ b.0, omega (arith, a.1, b.1))
+
+-- what the marks tell of a birth, and of a row that was a living head
+module _ (sound : RunsSound) (keep : RunsKeepLaws) (stamps : RunsStamp) (step : RunsStep) (last : RunsLast) (know : RunsKnow) (events : RunsEvents) (R : Run) (N : ℕ) (m : Marks) (tell : MarksTell R N m) where
+  pub birth_tells : (c : Kind) (r : ℕ) (h : Birth sound keep stamps step last know events R N c r) → ins_of m c r ≡ record { stamp = h.stamp; time = h.time }
+  birth_tells c r h = go h.time h.stamp h.way
+    where
+      go : (p n : ℕ) → Way sound keep stamps step last know events R N c r p n → ins_of m c r ≡ record { stamp = n; time = p }
+      go p n (from_start o a b) = tell.old c r o ∙ sym (ap₂ (λ a b. record { stamp = a; time = b }) b a ∙ old_is sound keep stamps step last know events R N c)
+      go p n (by_link x) = tell.born c r p n h.linked x.linking x.is
+
+  -- a vertex row from before the start was the head of its key
+  pub old_head_tells : (r : ℕ) → LinkedAt R 0 Vertex r → head_at R 0 (head.Vertex (m.key_of r)) ≡ r
+  old_head_tells r o = let x = (last R).old_row Vertex r o in go x.head x.named x.kind x.is
+    where
+      go : (h : Head) → Named R.sizes (cell.Head h) → head_kind h ≡ Vertex → head_at R 0 h ≡ r → head_at R 0 (head.Vertex (m.key_of r)) ≡ r
+      go (head.Edge i j) n k e = absurd cc
+      go (head.Vertex i) n k e = ap (λ j. head_at R 0 (head.Vertex j)) (tell.old_key i r n e (row_pos R 0 r o)) ∙ e
+
+  pub living_tells : (t i r : ℕ) → i < R.sizes.keys → t ≤ N → Living R t i r → m.key_of r ≡ i
+  living_tells t i r n l v =
+      ⊎_elim (λ (e : head_at R 0 (head.Vertex i) ≡ r). tell.old_key i r n e (row_pos R t r v.linked))
+      (λ (p : Past t (λ p. (b : ℕ) × LinkEvent R p b (change.Vertex i) r)). tell.key p.time p.held.0 i r p.held.1 (omega (arith, p.before)))
+      (living_from sound keep stamps step last know R n v)
 
 module _ (sound : RunsSound) (keep : RunsKeepLaws) (stamps : RunsStamp) (step : RunsStep) (last : RunsLast) (know : RunsKnow) (events : RunsEvents) (R : Run) (N : ℕ) (m : Marks) (tell : MarksTell R N m) (ok : Sound (time_bound N) (clock_at R N) m) where
   abbrev Born : ℕ → Type 0
@@ -47,7 +73,7 @@ module _ (sound : RunsSound) (keep : RunsKeepLaws) (stamps : RunsStamp) (step : 
   Ended r = End sound keep stamps step last know events R N Vertex r
 
   birth_is : (r : ℕ) (h : Born r) → m.vertex_ins r ≡ record { stamp = h.stamp; time = h.time }
-  birth_is r h = tell.born Vertex r h.time h.stamp h.linked h.linking h.is
+  birth_is r h = birth_tells sound keep stamps step last know events R N m tell Vertex r h
 
   end_is : (r : ℕ) (h : Ended r) → m.vertex_del r ≡ record { stamp = h.stamp; time = h.time }
   end_is r h = tell.ended Vertex r h.time h.stamp h.linked h.ending h.is
@@ -64,9 +90,6 @@ module _ (sound : RunsSound) (keep : RunsKeepLaws) (stamps : RunsStamp) (step : 
       let q : a ≡ b = same_some sound keep stamps step last know R (sym x.whose ∙ ap (open_at R t) w ∙ u.whose) in
       none f t d r l (subst (λ j. ChangeEvent R f t j d r) q fv)
 
-  event_of : (r : ℕ) (h : Born r) → (i : ℕ) × LinkEvent R h.time h.linking.began (change.Vertex i) r
-  event_of r h = let x = vertex_change h.linking.change h.linking.kind in (x.0, subst (λ d. LinkEvent R h.time h.linking.began d r) x.1 h.linking.event)
-
   -- what had not ended at a turn of such a call ends later
   ends_later : (b t r : ℕ) → MadeNone R N b → TurnOf R t b → t < N → mark_at R t Vertex Del r ≡ NotEnded → Earlier (now_mark t) (m.vertex_del r)
   ends_later b t r none u l e =
@@ -81,15 +104,14 @@ module _ (sound : RunsSound) (keep : RunsKeepLaws) (stamps : RunsStamp) (step : 
   found_here : (b t i r : ℕ) → MadeNone R N b → TurnOf R t b → t < N → i < R.sizes.keys → Living R t i r → VertexFound (time_bound N) m (turn_key R N t) i true
   found_here b t i r none u l k v =
       let h = living_birth sound keep stamps step last know events R N t i r k (omega arith) v in
-      let p = living_link sound keep stamps step last know R k v in
       let small : rows_all (R.state t).sizes Vertex ≡ rows_all R.sizes Vertex = ap (λ (z : Sizes). rows_all z Vertex) (sizes_at sound keep stamps R t) in (
         r,
         record {
           row = omega (arith, tell.vertices, (linked_is_row (R.state t) Vertex r v.linked).1);
-          born = inl (subst (λ x. Earlier x (now_mark t)) (sym (birth_is r h.0)) (earlier h.0.stamp h.0.time (clock_at R t) t h.2 h.1));
+          born = inl (subst (λ x. Earlier x (now_mark t)) (sym (birth_is r h.0)) h.1);
           ends = ends_later b t r none u l v.alive;
         },
-        tell.key p.time p.held.0 i r p.held.1 (omega (arith, p.before)),
+        living_tells sound keep stamps step last know events R N m tell t i r k (omega arith) v,
       )
 
   -- a row of the key at a turn at which the head was no row, or one that had ended
@@ -105,25 +127,31 @@ module _ (sound : RunsSound) (keep : RunsKeepLaws) (stamps : RunsStamp) (step : 
       head_ended s x p (inl z) = absurd (omega arith)
       head_ended s x p (inr z) = inr (inl (subst (λ y. Earlier (m.vertex_del y) (now_mark t)) (sym x) z))
 
-      older : (s p a : ℕ) → LinkEvent R p a (change.Vertex i) s → p < t → After (turn_key R N t) (m.vertex_ins s) ⊎ Before (time_bound N) (turn_key R N t) (m.vertex_del s)
-      older s p a ev z =
-          let pos = row_pos R (suc p) s ev.step.linked in
+      older : (s v : ℕ) → head_at R v (head.Vertex i) ≡ s → 0 < s → v ≤ t → After (turn_key R N t) (m.vertex_ins s) ⊎ Before (time_bound N) (turn_key R N t) (m.vertex_del s)
+      older s v x pos z =
           ⊎_elim (λ (y : head_at R t (head.Vertex i) ≡ s). head_ended s (sym y ∙ e) pos d) (λ (y : Dead R t s). dead s y)
-          (stays_or_dead step last R t (worker_knows sound keep stamps step last know R t) i k s (suc p) t pos z (omega arith) ev.step.head)
+          (stays_or_dead step last R t (worker_knows sound keep stamps step last know R t) i k s v t pos z (omega arith) x)
 
-      newer : (s : ℕ) (h : Born s) → t ≤ h.time → After (turn_key R N t) (m.vertex_ins s) ⊎ Before (time_bound N) (turn_key R N t) (m.vertex_del s)
-      newer s h z =
-          let y = other_time b t none u l Ins h.time h.linking.began h.linking.change s h.linking.event in
-          let c = birth_now sound keep stamps step last know events R N Vertex s h in
-          let g = clock_later sound keep stamps step last know R t h.time z in
-          inl (subst (Earlier (now_mark t)) (sym (birth_is s h)) (earlier (clock_at R t) t h.stamp h.time (omega (arith, c.0)) (omega (arith, y))))
+      newer : (s p n : ℕ) → LinkBirth sound keep stamps step last know events R N Vertex s p n → m.vertex_ins s ≡ record { stamp = n; time = p } → t ≤ p → After (turn_key R N t) (m.vertex_ins s) ⊎ Before (time_bound N) (turn_key R N t) (m.vertex_del s)
+      newer s p n h is z =
+          let y = other_time b t none u l Ins p h.linking.began h.linking.change s h.linking.event in
+          let c = link_now sound keep stamps step last know events R N Vertex s p n h in
+          let g = clock_later sound keep stamps step last know R t p z in
+          inl (subst (Earlier (now_mark t)) (sym is) (earlier (clock_at R t) t n p (omega (arith, c.0)) (omega (arith, y))))
+
+      by_way : (s p n : ℕ) → m.key_of s ≡ i → Way sound keep stamps step last know events R N Vertex s p n → m.vertex_ins s ≡ record { stamp = n; time = p } → After (turn_key R N t) (m.vertex_ins s) ⊎ Before (time_bound N) (turn_key R N t) (m.vertex_del s)
+      by_way s p n q (from_start o x y) is =
+          let z = old_head_tells sound keep stamps step last know events R N m tell s o in
+          older s 0 (ap (λ j. head_at R 0 (head.Vertex j)) (sym q) ∙ z) (row_pos R 0 s o) (omega arith)
+      by_way s p n q (by_link h) is =
+          let x = vertex_change h.linking.change h.linking.kind in
+          let ev : LinkEvent R p h.linking.began (change.Vertex x.0) s = subst (λ d. LinkEvent R p h.linking.began d s) x.1 h.linking.event in
+          let j : x.0 ≡ i = sym (tell.key p h.linking.began x.0 s ev h.before) ∙ q in
+          ⊎_elim (λ (z : p < t). older s (suc p) (ap (λ y. head_at R (suc p) (head.Vertex y)) (sym j) ∙ ev.step.head) (row_pos R (suc p) s ev.step.linked) z) (λ (z : t ≤ p). newer s p n h is z) (cases_lt p t)
 
       go : (s : ℕ) → m.key_of s ≡ i → Born s ⊎ ¬ (LinkedAt R N Vertex s × Stamped R N Vertex Ins s) → After (turn_key R N t) (m.vertex_ins s) ⊎ Before (time_bound N) (turn_key R N t) (m.vertex_del s)
       go s q (inr n) = inl (subst (Earlier (now_mark t)) (sym (tell.unborn Vertex s n)) (inl (omega (arith, clock_later sound keep stamps step last know R t N (omega arith)))))
-      go s q (inl h) =
-          let x = event_of s h in
-          let j : x.0 ≡ i = sym (tell.key h.time h.linking.began x.0 s x.1 h.before) ∙ q in
-          ⊎_elim (λ (z : h.time < t). older s h.time h.linking.began (subst (λ y. LinkEvent R h.time h.linking.began (change.Vertex y) s) j x.1) z) (λ (z : t ≤ h.time). newer s h z) (cases_lt h.time t)
+      go s q (inl h) = by_way s h.time h.stamp q h.way (birth_is s h)
 
   -- right after the birth of a row of the key
   found_born : (b i r a q n : ℕ) → LinkEvent R q a (change.Vertex i) r → q < N → mark_at R N Vertex Ins r ≡ Stamp n → VertexFound (time_bound N) m (after_key R N n q b) i true
@@ -143,8 +171,8 @@ module _ (sound : RunsSound) (keep : RunsKeepLaws) (stamps : RunsStamp) (step : 
       )
 
   -- right after the end of a row of the key
-  found_ended : (b i r a q p n : ℕ) → LinkEvent R q a (change.Vertex i) r → Ending R Vertex r p → p < N → mark_at R N Vertex Del r ≡ Stamp n → VertexFound (time_bound N) m (after_key R N n p b) i false
-  found_ended b i r a q p n ev x l e = λ s _ k. go s k (cases_eq s r)
+  found_ended : (b i r p n : ℕ) → m.key_of r ≡ i → Ending R Vertex r p → p < N → mark_at R N Vertex Del r ≡ Stamp n → VertexFound (time_bound N) m (after_key R N n p b) i false
+  found_ended b i r p n of x l e = λ s _ k. go s k (cases_eq s r)
     where
       at_end : LinkedAt R p Vertex r
       at_end = subst (λ (u : Kind). LinkedAt R p u r) x.kind x.event.linked
@@ -155,21 +183,17 @@ module _ (sound : RunsSound) (keep : RunsKeepLaws) (stamps : RunsStamp) (step : 
       del_is : m.vertex_del r ≡ record { stamp = n; time = p }
       del_is = tell.ended Vertex r p n on x e
 
-      linked_first : q < N
-      linked_first = omega (arith, l, linked_from sound keep stamps step last know R ev p at_end)
-
       born_stamp : (m.vertex_ins r).stamp ≤ clock_at R N
       born_stamp =
           let s = x.event.born in
           let t : mark_at R N Vertex Ins r ≡ Stamp s.number = stamp_kept sound keep stamps step last know R p N Vertex Ins r s.number (omega arith) at_end (subst (λ (u : Kind). mark_at R p u Ins r ≡ Stamp s.number) x.kind s.is) in
-          let y : Linking R Vertex r q = record { began = a; change = change.Vertex i; kind = refl; event = ev } in
-          let z = (events R).link_stamp Vertex r q N s.number y linked_first t in
-          subst (λ (w : Mark). w.stamp ≤ clock_at R N) (sym (tell.born Vertex r q s.number on y t)) z.1
+          let h : Born r = birth sound keep stamps step last know events R N Vertex r s.number on t in
+          subst (λ (w : Mark). w.stamp ≤ clock_at R N) (sym (birth_is r h)) (birth_now sound keep stamps step last know events R N Vertex r h).1
 
       go : (s : ℕ) → m.key_of s ≡ i → (s ≡ r) ⊎ ¬ (s ≡ r) → After (after_key R N n p b) (m.vertex_ins s) ⊎ Before (time_bound N) (after_key R N n p b) (m.vertex_del s)
       go s k (inl y) = inr (inr (ap (λ z. (m.vertex_del z).stamp) y ∙ ap (λ z. z.stamp) del_is, ap (λ z. (m.vertex_del z).time) y ∙ ap (λ z. z.time) del_is, omega arith))
       go s k (inr y) =
-          let same_key : m.key_of r ≡ m.key_of s = tell.key q a i r ev linked_first ∙ sym k in
+          let same_key : m.key_of r ≡ m.key_of s = of ∙ sym k in
           ⊎_elim
           (λ (z : Earlier (m.vertex_del r) (m.vertex_ins s)). inl (subst (λ w. Earlier w (m.vertex_ins s)) del_is z))
           (λ (z : Earlier (m.vertex_del s) (m.vertex_ins r)). inr (inl (subst (Earlier (m.vertex_del s)) del_is (then_earlier _ _ _ z (ok.vertex_order r born_stamp)))))

@@ -1,21 +1,25 @@
 -- What is seen of a run at each time: requests, replies and pages.
-use Rattle.std.specs.Prelude.{ℕ, suc, drop, take, Option}
-use Rattle.layout.specs.Layout.{page_size, page_start}
+use Rattle.std.specs.Prelude.{ℕ, suc, cond, not, ◌&&◌, None, Option, ◌==◌, nat_lt}
+use Rattle.layout.specs.declared.names.Cell.TheVariants as cell
 use Rattle.places.specs.Calls.{call_named}
 use Rattle.stepper.specs.declared.request.Request.{Request}
 use Rattle.stepper.specs.declared.request.Request.TheVariants as request
 use Rattle.stepper.specs.declared.request.Reply.{Reply}
 use Rattle.stepper.specs.declared.request.Reply.TheVariants as reply
 use Rattle.stepper.specs.States.{State}
+use Rattle.stepper.specs.Turns.{cell_at}
 use Rattle.stepper.specs.Requests.{reply_of}
 use Rattle.questions.specs.Graph.{Graph}
-use Rattle.questions.specs.Pages.{shown}
+use Rattle.questions.specs.Pages.{weight_of}
 use Rattle.order.specs.Seen.{Sight, Sight.begins, Sight.finishes, Sight.neither, open_call}
 use Rattle.runs.specs.Runs.{Run}
 
--- what the page of worker w shows
+-- what the page of worker w shows, cell by cell: a key where its cell is not 0, and an edge where the cell of its pair holds a weight
 abbrev pub page_graph : State → ℕ → Graph
-page_graph s w = shown (take (page_size s.sizes) (drop (page_start s.sizes w) s.cells)) s.sizes.keys
+page_graph s w = record {
+  has = λ k. nat_lt k s.sizes.keys && not (cell_at s.sizes s.cells (cell.PageKey w k) == 0);
+  edge = λ i j. cond (nat_lt i s.sizes.keys && nat_lt j s.sizes.keys) (weight_of (cell_at s.sizes s.cells (cell.PagePair w i j))) None;
+}
 
 -- what is seen of a request and its reply, where the pages show these graphs
 abbrev pub sight_of : (ℕ → Graph) → Request → Reply → Sight

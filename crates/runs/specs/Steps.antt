@@ -17,7 +17,7 @@ use Rattle.places.specs.declared.place.Place.{Place}
 use Rattle.places.specs.declared.place.Place.TheVariants as place
 use Rattle.places.specs.Touches.{change_head, change_kind, settled_field}
 use Rattle.stepper.specs.declared.request.Request.TheVariants.{Turn}
-use Rattle.laws.specs.Stamps.{IsStamp}
+use Rattle.laws.specs.Clean.{IsStamp}
 use Rattle.runs.specs.Runs.{Run}
 use Rattle.runs.specs.Views.{number_at, clock_at, head_at, mark_at, place_at, LinkedAt}
 

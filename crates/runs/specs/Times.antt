@@ -3,14 +3,14 @@ use Rattle.std.specs.Prelude.{◌≡◌, ℕ, zero, ◌<◌, ◌≤◌, ◌⊎�
 use Rattle.layout.specs.declared.names.Kind.{Kind}
 use Rattle.layout.specs.declared.names.Kind.TheVariants.{Edge}
 use Rattle.layout.specs.declared.names.Field.{Field}
-use Rattle.layout.specs.declared.names.Field.TheVariants.{Ins}
+use Rattle.layout.specs.declared.names.Field.TheVariants.{Ins, Del}
 use Rattle.layout.specs.declared.names.Head.{Head}
 use Rattle.layout.specs.declared.names.Cell.TheVariants as cell
 use Rattle.layout.specs.Layout.{Named}
 use Rattle.places.specs.declared.mark.Mark.TheVariants.{NotEnded, Stamp}
 use Rattle.places.specs.declared.place.Change.{Change}
 use Rattle.places.specs.Touches.{change_head, head_kind}
-use Rattle.laws.specs.Stamps.{IsStamp}
+use Rattle.laws.specs.Clean.{IsStamp}
 use Rattle.runs.specs.Runs.{Run}
 use Rattle.runs.specs.Views.{number_at, clock_at, head_at, mark_at, LinkedAt}
 use Rattle.runs.specs.Steps.{LinkStep}
@@ -44,17 +44,28 @@ module _ (R : Run) where
     -- a head is as it was, or is a row that was linked there since
     pub head : (h : Head) → Named R.sizes (cell.Head h) → (head_at R u h ≡ head_at R t h) ⊎ Past u (λ p. (t ≤ p) × LinkedBy p h (head_at R u h))
 
+  -- a row that is linked at the start is the row of a head; it bears a stamp up to the clock, and has not ended
+  pub record OldRow (c : Kind) (r : ℕ) : Type 0 where
+    pub head : Head
+    pub named : Named R.sizes (cell.Head head)
+    pub kind : head_kind head ≡ c
+    pub is : head_at R zero head ≡ r
+    pub number : ℕ
+    pub stamp : mark_at R zero c Ins r ≡ Stamp number
+    pub low : number ≤ clock_at R zero
+    pub alive : mark_at R zero c Del r ≡ NotEnded
+
   pub record LastingLaws : Type 0 where
     pub times : (t u : ℕ) → t ≤ u → TimeLaws t u
     -- the clock is 1 to T
     pub clock : (k : ℕ) → IsStamp R.sizes (clock_at R k)
-    -- no row is linked at the start, and no head is a row
-    pub none_linked : (c : Kind) (r : ℕ) → ¬ (LinkedAt R zero c r)
-    pub no_head : (h : Head) → Named R.sizes (cell.Head h) → head_at R zero h ≡ 0
-    -- a head that is a row was linked there before
-    pub head : (k : ℕ) (h : Head) → Named R.sizes (cell.Head h) → 0 < head_at R k h → Past k (λ p. LinkedBy p h (head_at R k h))
-    -- a linked row was linked before
-    pub linked : (k : ℕ) (c : Kind) (r : ℕ) → LinkedAt R k c r → Past k (λ p. (h : Head) × (head_kind h ≡ c) × LinkedBy p h r)
+    -- the rows at the start are those of its heads
+    pub old_row : (c : Kind) (r : ℕ) → LinkedAt R zero c r → OldRow c r
+    pub old_head : (h : Head) → Named R.sizes (cell.Head h) → 0 < head_at R zero h → LinkedAt R zero (head_kind h) (head_at R zero h)
+    -- a head that is a row was so at the start, or was linked there before
+    pub head : (k : ℕ) (h : Head) → Named R.sizes (cell.Head h) → 0 < head_at R k h → (head_at R k h ≡ head_at R zero h) ⊎ Past k (λ p. LinkedBy p h (head_at R k h))
+    -- a linked row was linked at the start or before
+    pub linked : (k : ℕ) (c : Kind) (r : ℕ) → LinkedAt R k c r → LinkedAt R zero c r ⊎ Past k (λ p. (h : Head) × (head_kind h ≡ c) × LinkedBy p h r)
     -- ins of a linked row is pending or a stamp
     pub filled : (k : ℕ) (c : Kind) (r : ℕ) → LinkedAt R k c r → ¬ (mark_at R k c Ins r ≡ NotEnded)
 

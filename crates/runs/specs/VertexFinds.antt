@@ -36,7 +36,7 @@ module _ (R : Run) (now : ℕ) where
     -- a row of the key is there right after its birth
     pub born : (b i r a q n : ℕ) → LinkEvent R q a (change.Vertex i) r → q < now → mark_at R now Vertex Ins r ≡ Stamp n → VertexFound (time_bound now) m (after_key n q b) i true
     -- none is there right after the end of one of them
-    pub ended : (b i r a q p n : ℕ) → LinkEvent R q a (change.Vertex i) r → Ending R Vertex r p → p < now → mark_at R now Vertex Del r ≡ Stamp n → VertexFound (time_bound now) m (after_key n p b) i false
+    pub ended : (b i r p n : ℕ) → m.key_of r ≡ i → Ending R Vertex r p → p < now → mark_at R now Vertex Del r ≡ Stamp n → VertexFound (time_bound now) m (after_key n p b) i false
 
 abbrev pub RunsFindVertices : Type 0
 RunsFindVertices = (R : Run) (now : ℕ) (m : Marks) → MarksTell R now m → Sound (time_bound now) (clock_at R now) m → VertexFinds R now m

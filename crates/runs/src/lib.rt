@@ -8,18 +8,28 @@ ghost use Rattle.runs.specs.Marking.{RunsMarked};
 ghost use Rattle.runs.specs.Once.{RunsChangeOnce};
 ghost use Rattle.runs.specs.Reasons.{RunsKnow};
 ghost use Rattle.runs.specs.Sights.{RunsSeen};
-ghost use Rattle.runs.specs.Runs.{HistoriesAreRuns};
+ghost use Rattle.runs.specs.Runs.{HistoriesAreRuns, OpeningsAreRuns};
+ghost use Rattle.runs.specs.Settling.{RunsSettle};
+ghost use Rattle.runs.specs.Starts.{OpeningsEmpty, RunsStartShown};
 ghost use Rattle.runs.specs.Steps.{RunsStep};
 ghost use Rattle.runs.specs.Times.{RunsLast};
 ghost use Rattle.runs.specs.VertexFinds.{RunsFindVertices};
+ghost use Rattle.runs.specs.Worked.{Worked};
 
-use laws::{runs_keep_laws, runs_sound, runs_stamp};
+use laws::{openings_clean, runs_keep_laws, runs_sound, runs_stamp};
 use order::pasts_tell_what_was_seen;
 
-// Every history of begins and turns is the history of a run, up to a time.
+// Every history of begins and turns from a clean state is the history of a run, up to a time.
 pub fn histories_are_runs()
     ensures { HistoriesAreRuns }
 {}
+
+// So is every history from an opening.
+pub fn openings_are_runs()
+    ensures { OpeningsAreRuns }
+{
+    openings_clean();
+}
 
 // What one step of a run does to the clock, to heads and to linked rows.
 pub fn runs_step()
@@ -135,3 +145,41 @@ pub fn runs_miss_edges()
     runs_know();
     runs_events();
 }
+
+// Every opening is clean and shows the empty graph.
+pub fn openings_empty()
+    ensures { OpeningsEmpty }
+{
+    openings_clean();
+}
+
+// The rows from before the start show the graph of the start.
+pub fn runs_start_shown()
+    ensures { RunsStartShown }
+{
+    runs_sound();
+    runs_keep_laws();
+    runs_stamp();
+    runs_step();
+    runs_last();
+    runs_know();
+    runs_events();
+}
+
+// At a raise of the clock what a raise meets can be said of the marks of any later time.
+pub fn runs_settle()
+    ensures { RunsSettle }
+{
+    runs_sound();
+    runs_keep_laws();
+    runs_stamp();
+    runs_step();
+    runs_last();
+    runs_know();
+    runs_events();
+}
+
+// A run can start with an edge.
+pub fn worked_case_stands()
+    ensures { Worked }
+{}

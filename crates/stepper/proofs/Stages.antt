@@ -23,6 +23,7 @@ abbrev pub Staged : Place → Option ℕ → Place → Type 0
 Staged p g place.Idle = p ≡ place.Idle
 Staged p g (place.Settle stage.Clock q) = (p ≡ place.Settle stage.First q) × (number_of g ≡ pending)
 Staged p g (place.Settle (stage.Swap n) q) = (p ≡ place.Settle stage.Clock q) × (n ≡ number_of g)
+Staged p g (place.Raise v) = ⊥
 Staged p g q = Unit {0}
 
 abbrev StagedOut : Place → Option ℕ → Out → Type 0
@@ -43,6 +44,7 @@ module _ (p : Place) (g : Option ℕ) where
   starts_staged place.Idle s = absurd s
   starts_staged (place.Settle stage.First q) s = tt
   starts_staged (place.Settle st q) s = absurd s
+  starts_staged (place.Raise v) s = absurd s
   starts_staged q s = tt
 
   out_staged : (o : Out) → StartsOut o → StagedOut p g o

@@ -1,4 +1,4 @@
--- What follows outside the stages of settling a field: an answer, or a place that is in a call and at no later stage of settling.
+-- What follows outside the stages of settling a field: an answer, or a place that is in a call, at no later stage of settling, and not at its raise.
 use Rattle.std.proofs.Common.{rules, ℕ, Bool, true, false, Some, None, Ok, Err, Option, Result}
 use Rattle.std.specs.declared.ops.ControlFlow.TheVariants.{Continue, Break}
 use Rattle.layout.specs.declared.names.Field.{Field}
@@ -38,6 +38,7 @@ abbrev pub Starts : Place → Type 0
 Starts place.Idle = ⊥
 Starts (place.Settle stage.First p) = Unit {0}
 Starts (place.Settle st p) = ⊥
+Starts (place.Raise v) = ⊥
 Starts p = Unit {0}
 
 abbrev pub StartsOut : Out → Type 0

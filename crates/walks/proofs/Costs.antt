@@ -14,7 +14,7 @@ use Rattle.books.specs.declared.book.Book.{Book}
 use Rattle.books.specs.Serving.{leg_at, leg_number, go_on as goes_on, serve_from, survey_done}
 use Rattle.walks.specs.Courses.{Course, Laws}
 use Rattle.walks.specs.Pages.{Page}
-use Rattle.walks.specs.Budgets.{sum_below, links_over, limit}
+use Rattle.walks.specs.Budgets.{sum_below, links_over, rows_in, limit}
 use Rattle.walks.proofs.Drafts.{Draft, draft_of, put_at, at_puts, put_here, put_there, walk_in, join_in}
 use Rattle.walks.proofs.Serves.{Opened, none_open, first, opened, leg_number_is}
 use Rattle.walks.proofs.Fills.{in_queue}
@@ -40,11 +40,8 @@ module _ (c : Course) (n : ℕ) where
   pair_cost k a j = cond (eqb a j) 0 (8 + links_over c k (head.Edge a j))
 
   -- the rows of all heads
-  unfoldable pub rows_met : ℕ → ℕ
-  rows_met k = sum_below n (λ i. links_over c k (head.Vertex i)) + sum_below n (λ a. sum_below n (λ j. links_over c k (head.Edge a j)))
-
   unfoldable pub total : ℕ → ℕ
-  total k = limit n (rows_met k)
+  total k = limit n (rows_in c n k)
 
   -- keys that have had their walk, and pairs with numbers below x
   abbrev pub keys_cost : ℕ → Draft → ℕ
@@ -103,8 +100,8 @@ module _ (c : Course) (n : ℕ) (law : Laws c n) (some_key : 0 < n) where
   base_mono k l d (job.Pair g) u = serving_mono k l d (leg_number n g) u
   base_mono k l d (job.Target g e) u = serving_mono k l d (leg_number n g + 1) u
 
-  pub rows_mono : (k l : ℕ) → k ≤ l → rows_met c n k ≤ rows_met c n l
-  unfolding rows_met
+  pub rows_mono : (k l : ℕ) → k ≤ l → rows_in c n k ≤ rows_in c n l
+  unfolding rows_in
   rows_mono k l u = omega (
     arith,
     sum_le n (λ i. links_over c k (head.Vertex i)) (λ i. links_over c l (head.Vertex i)) (λ i a. links_mono c n law k l (head.Vertex i) u),
@@ -140,18 +137,18 @@ module _ (c : Course) (n : ℕ) (law : Laws c n) (some_key : 0 < n) where
       omega arith
 
   pub serving_total : (k : ℕ) (v : Survey) (d : Draft) (x : ℕ) → x ≤ n * d.len → Once n v d → serving c n k d x ≤ total c n k
-  unfolding total rows_met
+  unfolding total rows_in
   serving_total k v d x l o = omega (arith, keys_total k d, pairs_total k v d x l o)
 
   square : n ≤ n * n
   square = omega (arith, mul-le-mul_left n some_key)
 
   pub keys_fit : (k i : ℕ) → i ≤ n → 1 + sum_below i (key_cost c n k) ≤ total c n k
-  unfolding total rows_met key_cost
+  unfolding total rows_in key_cost
   keys_fit k i l = omega (arith, sum_up i n (key_cost c n k) l, sum_eights n (λ y. links_over c k (head.Vertex y)), square)
 
   pub start_fits : (k i : ℕ) → i < n → 1 + key_cost c n k i ≤ total c n k
-  unfolding total rows_met key_cost
+  unfolding total rows_in key_cost
   start_fits k i l = omega (arith, sum_at n i (key_cost c n k) l, keys_fit k n (omega arith))
 
   -- on from pair number x

@@ -7,7 +7,6 @@ use Rattle.layout.specs.declared.names.Kind.{Kind}
 use Rattle.layout.specs.declared.names.Cell.TheVariants as cell
 use Rattle.layout.specs.Layout.{index_of, page_start, page_size, IsRow}
 use Rattle.layout.proofs.Regions.{index_lt}
-use Rattle.layout.proofs.Owners.{own_row}
 use Rattle.places.specs.declared.place.Stage.TheVariants as stage
 use Rattle.places.specs.declared.place.Place.{Place}
 use Rattle.places.specs.Marks.{pending}
@@ -18,7 +17,7 @@ use Rattle.stepper.specs.Turns.{worker_at, hand_of, turned}
 use Rattle.stepper.specs.Workers.{followed}
 use Rattle.stepper.specs.Effects.{got_of, cells_after, zeroed, entered}
 use Rattle.cells.specs.Cells.{swapped}
-use Rattle.laws.specs.Fits.{Linked, FitPlace, Fit}
+use Rattle.laws.specs.Fits.{Linked, InChain.at_head as top_row, InChain.below as lower_row, FitPlace, Fit}
 use Rattle.walks.specs.Memory.{Memory, memory_of}
 use Rattle.walks.specs.Walking.{Done}
 use Rattle.walks.specs.Surveys.{TurnDone}
@@ -38,7 +37,8 @@ swapped_here cs i old new l e = (let q : eqb (get_or cs i 0) old ≡ true = grin
 
 -- a linked row is a row
 pub row_is : (s : State) (k : Kind) (r : ℕ) → Linked s k r → IsRow s.sizes k r
-row_is s k r l = (own_row s.sizes k l.owner l.place r l.is).0
+row_is s k r (top_row h _ n e f l) = l
+row_is s k r (lower_row q _ x f l) = l
 
 -- the cells after a turn at place p
 abbrev cells_then : State → ℕ → Place → List ℕ

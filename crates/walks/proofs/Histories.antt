@@ -11,7 +11,6 @@ use Rattle.layout.specs.Layout.{Named}
 use Rattle.layout.specs.Rows.{no_row}
 use Rattle.places.specs.Touches.{head_kind}
 use Rattle.places.specs.declared.mark.Mark.TheVariants.{Stamp}
-use Rattle.stepper.specs.Opening.{opened_state}
 use Rattle.stepper.specs.History.{Traces}
 use Rattle.laws.specs.Stamps.{StampLaws, RunsStamp}
 use Rattle.runs.specs.Runs.{Run, history_at}
@@ -20,14 +19,14 @@ use Rattle.runs.specs.Steps.{HeadSteps, HeadSteps.stays, HeadSteps.moves, RunsSt
 use Rattle.runs.specs.Times.{LinkedBy, RunsLast}
 use Rattle.runs.specs.Known.{Stamped as StampedIn}
 use Rattle.walks.specs.Memory.{mark_in, head_inside, memory_of}
-use Rattle.walks.specs.Courses.{Course, Stamped}
+use Rattle.walks.specs.Courses.{Course, Stamped, Old}
 use Rattle.walks.specs.Steps.{Links, WasLinked}
 use Rattle.walks.specs.Histories.{run_course}
 
--- the run's history leads from the opening to its state
-pub traced : (R : Run) (k : ℕ) → Traces (opened_state R.cells R.sizes) (history_at R k) (R.state k)
+-- the run's history leads from its start to its state
+pub traced : (R : Run) (k : ℕ) → Traces (R.state 0) (history_at R k) (R.state k)
 unfolding history_at
-traced R zero = sym R.start
+traced R zero = refl
 traced R (suc k) = (R.state k, traced R k, refl, R.next k)
 
 -- a head is one of the sizes, or outside
@@ -48,11 +47,11 @@ inside z (head.Vertex i) n = lt-ltb i z.keys n
 inside z (head.Edge i j) n = rw (lt-ltb i z.keys n.0, lt-ltb j z.keys n.1) refl
 
 module _ (stamp : RunsStamp) (R : Run) where
-  pub stamps_at : (k : ℕ) → StampLaws (opened_state R.cells R.sizes) (history_at R k) (R.state k)
-  stamps_at k = stamp R.sizes R.cells R.room (history_at R k) (R.state k) (traced R k)
+  pub stamps_at : (k : ℕ) → StampLaws (R.state 0) (history_at R k) (R.state k)
+  stamps_at k = stamp (R.state 0) R.clean (history_at R k) (R.state k) (traced R k)
 
   pub sizes_at : (k : ℕ) → (R.state k).sizes ≡ R.sizes
-  sizes_at k = (stamps_at k).sizes
+  sizes_at k = (stamps_at k).sizes ∙ R.start
 
   -- a head of the sizes holds what its cell holds, a head outside no row
   pub head_named : (k : ℕ) (h : Head) → Named R.sizes (cell.Head h) → (memory_of (R.state k)).head h ≡ head_at R k h
@@ -107,9 +106,27 @@ module _ (stamp : RunsStamp) (R : Run) where
     pub linked_by : (p : ℕ) (h : Head) (r : ℕ) → LinkedBy R p h r → LinkedAt R (suc p) (head_kind h) r
     linked_by p h r b = subst (λ g. LinkedAt R (suc p) (head_kind g) r) b.head b.step.linked
 
+    -- a row from before the start is that of a head of the sizes
+    pub record OldComes (h : Head) (r : ℕ) : Type 0 where
+      pub named : Named R.sizes (cell.Head h)
+      pub is : head_at R 0 h ≡ r
+      pub linked : LinkedAt R 0 (head_kind h) r
+
+    pub old_comes : (h : Head) (r : ℕ) → Old c h r → OldComes h r
+    old_comes h r o = ⊎_elim named outside (inside_or R.sizes h)
+      where
+        named : Named R.sizes (cell.Head h) × (head_inside R.sizes h ≡ true) → OldComes h r
+        named n =
+            let e : head_at R 0 h ≡ r = sym (head_then 0 h (omega arith) n.0) ∙ o.is in
+            record { named = n.0; is = e; linked = subst (LinkedAt R 0 (head_kind h)) e ((last R).old_head h n.0 (omega (arith, o.row, e))) }
+
+        outside : head_inside R.sizes h ≡ false → OldComes h r
+        outside n = absurd (omega (arith, o.row, o.is, head_outside (min 0 now) h n))
+
     -- what was linked is linked
     pub linked_then : (k : ℕ) (h : Head) (r : ℕ) → WasLinked c R.sizes.keys k h r → LinkedAt R (min k now) (head_kind h) r
-    linked_then k h r w =
+    linked_then k h r (inl o) = let x = old_comes h r o in ((last R).times 0 (min k now) (omega arith)).linked (head_kind h) r x.linked
+    linked_then k h r (inr w) =
         let x = link_comes w.time h r w.was in
         ((last R).times (suc w.time) (min k now) (omega (arith, w.before, x.early))).linked (head_kind h) r (linked_by w.time h r x.by)
 

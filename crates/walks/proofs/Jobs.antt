@@ -20,6 +20,7 @@ use Rattle.walks.specs.Memory.{Memory}
 use Rattle.walks.specs.Courses.{Course, Linked, Laws}
 use Rattle.walks.specs.Visible.{Found}
 use Rattle.walks.specs.Pages.{Page, with_key}
+use Rattle.walks.proofs.Times.{linked_some}
 use Rattle.walks.proofs.Drafts.{at_puts, put_here, put_there, Draft, draft_of, walk_in, Kept, draft_walked, kept_walked}
 use Rattle.walks.proofs.Known.{NoEdge, Queued, Serving, Turning, Rising, Leaving, IsLeg, KnowsJob}
 use Rattle.walks.proofs.Serves.{start_absent, KnowsOut, walks_on, answers, serve_knows}
@@ -122,7 +123,7 @@ module _ (c : Course) (n : ℕ) (law : Laws c n) (some_key : 0 < n) (few : n ≤
       none g = record { out = next_none c n law some_key few k b p kept l leg v turn.within s g; kept = kept; raise = refl }
 
       no_row_none : r ≡ no_row → NoEdge c b.t k l.from l.to
-      no_row_none e m y a w = omega (arith, f.only m y a w.row (w.source, w.target), w.row.linked.was.row)
+      no_row_none e m y a w = omega (arith, f.only m y a w.row (w.source, w.target), (linked_some w.row.linked))
 
       linked : 0 < r → Linked c k (head.Edge l.from l.to) r
       linked y = (found_stays c b.t k (head.Edge l.from l.to) r y f k (omega arith)).linked

@@ -13,7 +13,7 @@ mod Starts
 mod Jobs
 mod Surveys
 mod Right
-mod Sums
+pub mod Sums
 mod Paces
 mod Costs
 mod Spends
@@ -21,18 +21,15 @@ mod Turns
 mod Limits
 mod Worked
 mod Effects
-mod Runs
+pub mod Runs
 mod Told
 mod Placed
 mod Begun
-mod Histories
+pub mod Histories
 mod RunSteps
 mod RunCourses
-mod Growth
-mod RunRows
-mod Decides
 mod RunMarks
-mod Written
-mod PageTurns
-mod RunSurveys
+pub mod Written
+pub mod PageTurns
+pub mod RunSurveys
 mod RunAnswers

@@ -1,5 +1,5 @@
 -- The answers of a snapshot or reach at the key of its raise.
-use Rattle.std.proofs.Common.{ℕ, suc, ◌≢◌, refl}
+use Rattle.std.proofs.Common.{ℕ, suc, ◌≢◌, refl, arith}
 use Rattle.codes.specs.declared.answer.Answer.{Answer}
 use Rattle.codes.specs.declared.answer.Answer.TheVariants.{ClockSpent}
 use Rattle.places.specs.declared.place.Survey.{Survey}
@@ -23,7 +23,7 @@ right_at_raise show c n law v began k a g d (with_page e h r) = record {
   says = λ l bound top m u tell sound settled b t. (
       let raise : Raise (λ j. (c.at j).clock) r.time g.book.t = record { rises = λ i j w. clock_mono c n law i j w; from = r.was.1; next = r.was.2 } in
       let shows = (show (λ j. (c.at j).clock) bound top m sound r.time g.book.t b t raise settled).shows in
-      says c n law k l u v a g.book g.page h _ (marks_show c n law l top m tell g.book.t t _ shows) e);
+      says c n law k l u v a g.book g.page h _ (marks_show c n law l top m tell g.book.t (omega (arith, clock_mono c n law 0 r.time (omega arith), r.was.1)) t _ shows) e);
 }
 right_at_raise show c n law v began k a g d clock_spent = absurd (d refl)
 

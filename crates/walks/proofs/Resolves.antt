@@ -16,6 +16,7 @@ use Rattle.books.specs.Walked.{Outcome, joins, resolved}
 use Rattle.walks.specs.Courses.{Course, Laws}
 use Rattle.walks.specs.Visible.{EdgeVisible, StaysVisible, Found}
 use Rattle.walks.specs.Pages.{Page, with_key, with_pair, written}
+use Rattle.walks.proofs.Times.{linked_some}
 use Rattle.walks.proofs.Drafts.{put_here, Draft, draft_of, join_in, Kept, draft_joined, kept_joined}
 use Rattle.walks.proofs.Known.{StaysEdge, NoEdge, go_on, Shown, weighs, Served, Serving, Leaving, IsLeg}
 use Rattle.walks.proofs.Counts.{shown_fewer}
@@ -74,7 +75,7 @@ module _ (c : Course) (n : ℕ) (law : Laws c n) (some_key : 0 < n) (few : n ≤
       only_one m y a w = lv.edge.only m y a w.row (w.source, w.target)
 
       target_some : 0 < c.target e
-      target_some = ((law.binds _ l.from l.to e ((the_row k (omega arith)).linked.was)).target).was.row
+      target_some = linked_some (law.binds k l.from l.to e (the_row k (omega arith)).linked).target
 
       no_target : (v : Survey) → Serving c n k v d x → c.target e ≢ d.row l.to → NoEdge c b.t k l.from l.to
       no_target v s o m y a w = o (rw (only_one m y a w) at ((s.rows l.to to_small seen).only m (c.target y) a w.target tt))

@@ -1,7 +1,7 @@
 -- The answers of a snapshot or reach are right of the graph at the number of its raise.
 use Rattle.std.proofs.Common.{◌≡◌, ℕ, suc, ◌+◌, ◌*◌, ◌<◌, ◌≤◌, Bool, true, false, cond, not, ◌&&◌, eqb, ltb, Option, Some, None, refl, sym, ◌∙◌, subst₂, ◌⊎◌, inl, inr, arith, mul_comm}
 use Rattle.std.proofs.lemmas.Nat.{mul-add-lt, div-mul-add, mod-mul-add}
-use Rattle.std.proofs.lemmas.Bool.{cases_lt, cases_Bool}
+use Rattle.std.proofs.lemmas.Bool.{lt-ltb, cases_lt, cases_Bool}
 use Rattle.std.proofs.lemmas.Bool.Decides.{nat_tests}
 use Rattle.codes.specs.declared.answer.Answer.{Answer}
 use Rattle.layout.specs.Rows.{no_row}
@@ -16,6 +16,7 @@ use Rattle.walks.specs.Courses.{Course, Laws}
 use Rattle.walks.specs.Visible.{Visible, EdgeVisible, StaysVisible, Stands}
 use Rattle.walks.specs.Pages.{Page, has_key, graph_of}
 use Rattle.walks.specs.Surveys.{Going, turn_of, Says, Right, PagesStand}
+use Rattle.walks.proofs.Times.{linked_some}
 use Rattle.walks.proofs.Drafts.{Draft, draft_of, Kept}
 use Rattle.walks.proofs.Known.{StaysEdge, Way, stay, go_on, Shown, nothing, weighs, Served, Serving}
 use Rattle.walks.proofs.Serves.{Ended, all_shown, part_shown, start_absent}
@@ -67,14 +68,16 @@ module _ (c : Course) (n : ℕ) (law : Laws c n) (k l : ℕ) (u : k ≤ l) (b : 
   both_none true o e = e
   both_none false o e = refl
 
-  -- a cell that shows the pair shows the edge of the graph, where its keys are shown
-  page_edge : (i j : ℕ) → Shown c b.t k i j (p.pair i j) → ((e : ℕ) → StaysEdge c b.t k i j e → (has_key n p i ≡ true) × (has_key n p j ≡ true)) →
-      (graph_of n p).edge i j ≡ g.edge i j
-  page_edge i j (nothing e f) keys = both_none (has_key n p i && has_key n p j) (weight_of (p.pair i j)) (rw e refl) ∙ sym (edge_none i j (λ x v. f l x u v))
-  page_edge i j (weighs e q x f) keys =
-      let (a, o) = keys e x in
-      let z : 0 < c.weight e = law.heavy _ i j e (x l u).row.linked.was in
-      rw (a, o) (rw q (weight_some (c.weight e) z ∙ sym (edge_row i j e (x l u))))
+  -- a cell that shows the pair shows the edge of the graph
+  no_edge : (i j : ℕ) → p.pair i j ≡ 0 → (graph_of n p).edge i j ≡ None
+  no_edge i j e = both_none (ltb i n && ltb j n) (weight_of (p.pair i j)) (rw e refl)
+
+  page_edge : (i j : ℕ) → Shown c b.t k i j (p.pair i j) → (graph_of n p).edge i j ≡ g.edge i j
+  page_edge i j (nothing e f) = no_edge i j e ∙ sym (edge_none i j (λ x v. f l x u v))
+  page_edge i j (weighs e q x f) =
+      let bound = law.binds _ i j e (x l u).row.linked in
+      let z : 0 < c.weight e = law.heavy _ i j e (x l u).row.linked in
+      rw (lt-ltb i n bound.from, lt-ltb j n bound.to) (rw q (weight_some (c.weight e) z ∙ sym (edge_row i j e (x l u))))
 
   module _ (v : Survey) (s : Serving c n k v d (n * b.len)) where
     row_here : (i : ℕ) → 0 < d.key i → g.has i ≡ true
@@ -98,7 +101,7 @@ module _ (c : Course) (n : ℕ) (law : Laws c n) (k l : ℕ) (u : k ≤ l) (b : 
     outside i j f = by_cell (s.cells i j)
       where
         by_cell : (p.pair i j ≡ 0) ⊎ ((0 < d.key i) × Shown c b.t k i j (p.pair i j)) → Shown c b.t k i j (p.pair i j)
-        by_cell (inl e) = nothing e (λ m x a w. let o = law.binds _ i j x w.row.linked.was in f o.from o.to)
+        by_cell (inl e) = nothing e (λ m x a w. let o = law.binds _ i j x w.row.linked in f o.from o.to)
         by_cell (inr (z, h)) = h
 
     key_shown : (i j : ℕ) → 0 < d.key i → Shown c b.t k i j (p.pair i j)
@@ -110,9 +113,9 @@ module _ (c : Course) (n : ℕ) (law : Laws c n) (k l : ℕ) (u : k ≤ l) (b : 
     where
       key_of : (i r m : ℕ) → k ≤ m → Visible c b.t m (head.Vertex i) r → (i < n) × (0 < d.key i)
       key_of i r m a w =
-          let small = law.keys _ i r w.linked.was in
+          let small = law.keys _ i r w.linked in
           let (seen, same) = s.mode.2 i small in
-          (small, omega (arith, (s.rows i small seen).only m r a w tt, same, w.linked.was.row))
+          (small, omega (arith, (s.rows i small seen).only m r a w tt, same, (linked_some w.linked)))
 
       has_path : (i : ℕ) → has_key n p i ≡ g.has i
       has_path i = elim (cases_lt 0 (d.key i)) [
@@ -129,14 +132,8 @@ module _ (c : Course) (n : ℕ) (law : Laws c n) (k l : ℕ) (u : k ≤ l) (b : 
         | inr a ↦ outside Snapshot s i j (λ x y. omega arith)
       ]
 
-      keys : (i j e : ℕ) → StaysEdge c b.t k i j e → (has_key n p i ≡ true) × (has_key n p j ≡ true)
-      keys i j e w =
-          let (a, x) = key_of i (c.source e) l u (w l u).source in
-          let (o, y) = key_of j (c.target e) l u (w l u).target in
-          (has_shown i a x, has_shown j o y)
-
       edge_path : (i j : ℕ) → (graph_of n p).edge i j ≡ g.edge i j
-      edge_path i j = page_edge i j (shown i j) (keys i j)
+      edge_path i j = page_edge i j (shown i j)
 
   -- a reach's page is the part that its key reaches
   module _ (i : ℕ) (s : Serving c n k (Reach i) d (n * b.len)) where
@@ -148,7 +145,7 @@ module _ (c : Course) (n : ℕ) (law : Laws c n) (k l : ℕ) (u : k ≤ l) (b : 
     shown_key j z = has_shown j (s.joined j z).small z
 
     leads : (a j e : ℕ) → 0 < d.key a → StaysEdge c b.t k a j e → 0 < d.key j
-    leads a j e z x = (from_key (Reach i) s a j z (law.binds _ a j e (x l u).row.linked.was).to).leads l e u (x l u)
+    leads a j e z x = (from_key (Reach i) s a j z (law.binds _ a j e (x l u).row.linked).to).leads l e u (x l u)
 
     leads_on : (a j w : ℕ) → 0 < d.key a → g.edge a j ≡ Some w → 0 < d.key j
     leads_on a j w z q = by_cell (key_shown (Reach i) s a j z)
@@ -163,9 +160,13 @@ module _ (c : Course) (n : ℕ) (law : Laws c n) (k l : ℕ) (u : k ≤ l) (b : 
 
     leaving : (a j : ℕ) → (graph_of n p).edge a j ≡ cond (has_key n p a) (g.edge a j) None
     leaving a j = elim (cases_lt 0 (d.key a)) [
-      | inl z ↦ rw (shown_key a z) (rw (sym (page_edge a j (key_shown (Reach i) s a j z) (λ e x. (shown_key a z, shown_key j (leads a j e z x))))) (rw (shown_key a z) refl))
-      | inr z ↦ (let none = has_not a (λ m. omega arith) in rw none refl)
+      | inl z ↦ rw (shown_key a z) (page_edge a j (key_shown (Reach i) s a j z))
+      | inr z ↦ (let none = has_not a (λ m. omega arith) in rw none (no_edge a j (bare (s.cells a j) z)))
     ]
+      where
+        bare : (p.pair a j ≡ 0) ⊎ ((0 < d.key a) × Shown c b.t k a j (p.pair a j)) → d.key a ≤ 0 → p.pair a j ≡ 0
+        bare (inl e) z = e
+        bare (inr (o, h)) z = absurd (omega arith)
 
     reach_right : (g.has i ≡ true) × Reached g i (graph_of n p)
     reach_right = (
@@ -182,7 +183,7 @@ pub says : (c : Course) (n : ℕ) → Laws c n → (k l : ℕ) → k ≤ l → (
 says c n law k l u v a b p kept g st (all_shown e s) = rw e (snapshot_right c n law k l u b p kept g st (rw e at s))
 says c n law k l u v a b p kept g st (part_shown i e s) = rw e (reach_right c n law k l u b p kept g st i (rw e at s))
 says c n law k l u v a b p kept g st (start_absent i e f) =
-    rw e (has_none c n law k l u b p kept g st i (λ r w. omega (arith, f.only l r u w tt, w.linked.was.row)))
+    rw e (has_none c n law k l u b p kept g st i (λ r w. omega (arith, f.only l r u w tt, (linked_some w.linked))))
 
 right_as : (c : Course) (n : ℕ) → Laws c n → (v : Survey) (began k : ℕ) (a : Answer) (g : Going) → Answered c n v began k g.book g.page a → Right c n v began k a g
 right_as c n law v began k a g (with_page e h r) = record {

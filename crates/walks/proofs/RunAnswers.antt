@@ -66,7 +66,7 @@ module _ (show : RaisesShowVisible) (sound : RunsSound) (keep : RunsKeepLaws) (s
       let at = in_survey (place_at R till w) v (in_call_then sound keep stamp know R w began till v inside by opened till by.before (omega arith)) in
       let in_state = within sound keep stamp know R w began till v inside by opened till in
       let good = sound_at sound keep stamp know R w began till v inside by opened till in
-      let does = answering (R.state till) w a at (record { worker = in_state; cells = good.cells; place = good.places w in_state }) answered in
+      let does = answering (R.state till) w a at (record { worker = in_state; cells = good.cells; counted = good.counted; place = good.places w in_state }) answered in
       let here : till ≡ min till now = omega arith in
       let then : suc till ≡ min (suc till) now = omega arith in
       let moved : stepped (R.state till) (request.Turn w) ≡ R.state (suc till) = ap (stepped (R.state till)) (sym asked) ∙ sym (R.next till) in

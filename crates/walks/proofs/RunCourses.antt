@@ -3,11 +3,12 @@ use Rattle.std.proofs.Common.{◌≡◌, ℕ, suc, ◌<◌, ◌≤◌, ◌≢◌
 use Rattle.std.proofs.lemmas.Bool.{ne_eqb, cases_lt}
 use Rattle.layout.specs.declared.names.Kind.{Kind}
 use Rattle.layout.specs.declared.names.Field.{Field}
+use Rattle.layout.specs.declared.names.Field.TheVariants.{Ins, Del}
+use Rattle.layout.specs.declared.sizes.Sizes.{Sizes}
 use Rattle.layout.specs.declared.names.Head.{Head}
 use Rattle.layout.specs.declared.names.Head.TheVariants as head
 use Rattle.layout.specs.declared.names.Cell.TheVariants as cell
 use Rattle.layout.specs.Layout.{Named}
-use Rattle.layout.specs.Rows.{no_row}
 use Rattle.places.specs.Marks.{mark_of, pending}
 use Rattle.places.specs.Touches.{head_kind, change_head, settled_field}
 use Rattle.places.specs.declared.mark.Mark.{Mark}
@@ -17,7 +18,7 @@ use Rattle.places.specs.declared.place.Purpose.TheVariants as purpose
 use Rattle.places.specs.declared.place.Stage.TheVariants as stage
 use Rattle.places.specs.declared.place.Place.TheVariants as place
 use Rattle.runs.specs.Runs.{Run}
-use Rattle.runs.specs.Views.{clock_at, head_at, mark_at, LinkedAt}
+use Rattle.runs.specs.Views.{number_at, clock_at, head_at, mark_at, LinkedAt}
 use Rattle.runs.specs.Steps.{TurnAt, HeadSteps, HeadSteps.stays as heads_stay, HeadSteps.moves as heads_move, MarkSteps, MarkSteps.same as marks_stay, MarkSteps.settled as marks_settled, MarkSteps.ended as marks_ended, RunsStep}
 use Rattle.runs.specs.Times.{RunsLast}
 use Rattle.runs.specs.Known.{FromClock, Known}
@@ -25,11 +26,12 @@ use Rattle.runs.specs.Purposes.{purpose_kind, purpose_field, purpose_row}
 use Rattle.runs.specs.Reasons.{WorkerKnows, WorkerKnows.free, WorkerKnows.busy, RunsKnow}
 use Rattle.runs.specs.Events.{RunsEvents}
 use Rattle.laws.specs.Stamps.{RunsStamp}
+use Rattle.laws.specs.Clean.{Stands as Standing}
 use Rattle.walks.specs.Memory.{head_inside, mark_in, memory_of}
-use Rattle.walks.specs.Courses.{Course}
-use Rattle.walks.specs.Steps.{Links, WasLinked, MarkMoves, stays, ends, stamps, Steps}
+use Rattle.walks.specs.Courses.{Course, Old}
+use Rattle.walks.specs.Steps.{Links, WasLinked, MarkMoves, stays, ends, stamps, OldEdge, OldOf, OldStart, Steps}
 use Rattle.walks.specs.Histories.{run_course, RunsGiveSteps}
-use Rattle.walks.proofs.Histories.{inside_or, stamps_at, head_outside, at_time, head_then, still, link_comes, linked_then}
+use Rattle.walks.proofs.Histories.{inside_or, stamps_at, head_outside, at_time, head_then, still, OldComes, old_comes, link_comes, linked_then}
 use Rattle.walks.proofs.RunSteps.{links_of}
 
 -- the field that a purpose settles, by its names
@@ -71,7 +73,8 @@ module _ (stamp : RunsStamp) (step : RunsStep) (last : RunsLast) (know : RunsKno
 
   -- a row that is linked at time a was linked before
   linked_before : (k a : ℕ) (h : Head) (r : ℕ) → WasLinked c n k h r → LinkedAt R a (head_kind h) r → WasLinked c n a h r
-  linked_before k a h r w l = record { time = w.time; before = ⊎_elim (λ (u : w.time < a). u) (λ (u : a ≤ w.time). absurd (late u)) (cases_lt w.time a); was = w.was }
+  linked_before k a h r (inl o) l = inl o
+  linked_before k a h r (inr w) l = inr (record { time = w.time; before = ⊎_elim (λ (u : w.time < a). u) (λ (u : a ≤ w.time). absurd (late u)) (cases_lt w.time a); was = w.was })
     where
       late : a ≤ w.time → ⊥
       late u =
@@ -123,15 +126,70 @@ module _ (stamp : RunsStamp) (step : RunsStep) (last : RunsLast) (know : RunsKno
       early l = ⊎_elim (λ (m : Named R.sizes (cell.Head h) × (head_inside R.sizes h ≡ true)). by_head l m.0 ((step R k).heads h m.0))
           (λ (m : head_inside R.sizes h ≡ false). inl (head_outside stamp R (min (suc k) now) h m ∙ sym (head_outside stamp R (min k now) h m))) (inside_or R.sizes h)
 
-  empty : (h : Head) → (c.at 0).head h ≡ no_row
-  empty h = ⊎_elim (λ (m : Named R.sizes (cell.Head h) × (head_inside R.sizes h ≡ true)). head_then stamp R step last now 0 h (omega arith) m.0 ∙ (last R).no_head h m.0)
-      (λ (m : head_inside R.sizes h ≡ false). head_outside stamp R (min 0 now) h m) (inside_or R.sizes h)
+  -- a row from before the start
+  old_head_of : (i r : ℕ) → i < n → head_at R 0 (head.Vertex i) ≡ r → 0 < r → Old c (head.Vertex i) r
+  old_head_of i r k e l = record { row = l; is = head_then stamp R step last now 0 (head.Vertex i) (omega arith) k ∙ e }
+
+  old_edge : (i j r : ℕ) → OldComes stamp R step last now (head.Edge i j) r → 0 < r → OldEdge c n i j r
+  old_edge i j r x l =
+      let k : (i < (R.state 0).sizes.keys) × (j < (R.state 0).sizes.keys) = subst (λ (z : Sizes). (i < z.keys) × (j < z.keys)) (sym R.start) x.named in
+      let a = R.clean.joined i j k.0 k.1 (omega (arith, x.is)) in
+      let laws = (last R).times 0 (min now now) (omega arith) in
+      let s : c.source r ≡ head_at R 0 (head.Vertex i) = laws.source r x.linked ∙ subst (λ q. number_at R 0 (cell.Source q) ≡ head_at R 0 (head.Vertex i)) x.is a.source in
+      let t : c.target r ≡ head_at R 0 (head.Vertex j) = laws.target r x.linked ∙ subst (λ q. number_at R 0 (cell.Target q) ≡ head_at R 0 (head.Vertex j)) x.is a.target in
+      let w : 1 ≤ number_at R 0 (cell.Weight r) = subst (λ q. 1 ≤ number_at R 0 (cell.Weight q)) x.is a.weight.0 in
+      record {
+        from = x.named.0;
+        to = x.named.1;
+        apart = a.apart;
+        weight = omega (arith, laws.weight r x.linked, w);
+        source = old_head_of i (c.source r) x.named.0 (sym s) (omega (arith, s, a.from));
+        target = old_head_of j (c.target r) x.named.1 (sym t) (omega (arith, t, a.to));
+      }
+
+  old_of : (h : Head) (r : ℕ) → OldComes stamp R step last now h r → 0 < r → OldOf c n h r
+  old_of (head.Vertex i) r x l = x.named
+  old_of (head.Edge i j) r x l = old_edge i j r x l
+
+  old_low : (h : Head) (r : ℕ) → OldComes stamp R step last now h r → 0 < r → number_at R 0 (cell.Stamp (head_kind h) Ins r) ≤ clock_at R 0
+  old_low h r x l =
+      ⊎_elim (λ (e : head_at R 0 h ≡ 0). absurd (omega (arith, x.is)))
+      (λ (s : Standing (R.state 0) h). subst (λ q. number_at R 0 (cell.Stamp (head_kind h) Ins q) ≤ clock_at R 0) x.is s.born)
+      (R.clean.heads h (subst (λ (z : Sizes). Named z (cell.Head h)) (sym R.start) x.named))
+
+  old_stamp : (h : Head) (r : ℕ) (x : OldComes stamp R step last now h r) → 0 < r → mark_at R 0 (head_kind h) Ins r ≡ Stamp (number_at R 0 (cell.Stamp (head_kind h) Ins r))
+  old_stamp h r x l =
+      ⊎_elim (λ (e : head_at R 0 h ≡ 0). absurd (omega (arith, x.is)))
+      (λ (s : Standing (R.state 0) h).
+      let y : ℕ = number_at R 0 (cell.Stamp (head_kind h) Ins r) in
+      let one : 1 ≤ y = subst (λ q. 1 ≤ number_at R 0 (cell.Stamp (head_kind h) Ins q)) x.is s.stamp in
+      mark_stamp y ((stamps_at stamp R 0).apart y (one, omega (arith, old_low h r x l, R.clean.clock.1))))
+      (R.clean.heads h (subst (λ (z : Sizes). Named z (cell.Head h)) (sym R.start) x.named))
+
+  old_start : (h : Head) (r : ℕ) → Old c h r → OldStart c n h r
+  old_start h r o =
+      let x = old_comes stamp R step last now h r o in
+      let row = (last R).old_row (head_kind h) r x.linked in
+      let zero_is = at_time stamp R step last now 0 (omega arith) in
+      record {
+        under = ((last R).times 0 (min now now) (omega arith)).older (head_kind h) r x.linked ∙ under x;
+        born = record { number = number_at R 0 (cell.Stamp (head_kind h) Ins r); is = subst (λ m. mark_in (memory_of (R.state m)) (head_kind h) Ins r ≡ Stamp (number_at R 0 (cell.Stamp (head_kind h) Ins r))) zero_is (old_stamp h r x o.row) };
+        low = subst (λ m. number_at R 0 (cell.Stamp (head_kind h) Ins r) ≤ clock_at R m) zero_is (old_low h r x o.row);
+        alive = subst (λ m. mark_in (memory_of (R.state m)) (head_kind h) Del r ≡ NotEnded) zero_is row.alive;
+        of = old_of h r x o.row;
+      }
+    where
+      under : OldComes stamp R step last now h r → number_at R 0 (cell.Older (head_kind h) r) ≡ 0
+      under x =
+          ⊎_elim (λ (e : head_at R 0 h ≡ 0). absurd (omega (arith, x.is, o.row)))
+          (λ (s : Standing (R.state 0) h). subst (λ q. number_at R 0 (cell.Older (head_kind h) q) ≡ 0) x.is s.alone)
+          (R.clean.heads h (subst (λ (z : Sizes). Named z (cell.Head h)) (sym R.start) x.named))
 
   run_steps : Steps c n
   run_steps = record {
     clock_rises = λ k. ((last R).times (min k now) (min (suc k) now) (omega arith)).clock;
     clock_stamps = λ k. mark_stamp (clock_at R (min k now)) ((stamps_at stamp R (min k now)).apart (clock_at R (min k now)) (stamps_at stamp R (min k now)).clock);
-    empty = empty;
+    old = old_start;
     heads = heads;
     marks = marks;
     older = λ k h r w. sym (((last R).times (min k now) (min now now) (omega arith)).older (head_kind h) r (linked_then stamp R step last now k h r w));

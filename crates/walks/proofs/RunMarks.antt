@@ -1,5 +1,5 @@
 -- The marks that a run gives to order are those of its course.
-use Rattle.std.proofs.Common.{◌≡◌, ℕ, suc, ◌<◌, ◌≤◌, sym, refl, ap, ◌∙◌, subst, subst₂, ⊎_elim, arith}
+use Rattle.std.proofs.Common.{◌≡◌, ℕ, suc, ◌<◌, ◌≤◌, ◌⊎◌, sym, refl, ap, ◌∙◌, subst, subst₂, inl, inr, ⊎_elim, arith}
 use Rattle.layout.specs.declared.sizes.Sizes.{Sizes}
 use Rattle.layout.specs.declared.names.Kind.{Kind}
 use Rattle.layout.specs.declared.names.Kind.TheVariants as kind
@@ -18,29 +18,29 @@ use Rattle.places.specs.declared.place.Change.TheVariants as change
 use Rattle.places.specs.declared.place.Place.TheVariants as place
 use Rattle.stepper.specs.States.{State}
 use Rattle.laws.specs.Fits.{FitPlace, FitChange}
-use Rattle.laws.specs.Sound.{RunsSound}
+use Rattle.laws.specs.Sound.{RunsSound, RunsKeepLaws}
 use Rattle.laws.specs.Stamps.{RunsStamp}
 use Rattle.order.specs.Marks.{Mark, Marks}
 use Rattle.runs.specs.Runs.{Run, history_at}
 use Rattle.runs.specs.Views.{number_at, clock_at, head_at, mark_at, LinkedAt}
 use Rattle.runs.specs.Steps.{LinkStep, RunsStep}
-use Rattle.runs.specs.Times.{RunsLast}
+use Rattle.runs.specs.Times.{Past, RunsLast}
 use Rattle.runs.specs.Known.{LinkEvent, Known}
 use Rattle.runs.specs.Reasons.{WorkerKnows, WorkerKnows.free, WorkerKnows.busy, RunsKnow}
-use Rattle.runs.specs.Events.{RunsEvents}
+use Rattle.runs.specs.Events.{Linking, RunsEvents}
 use Rattle.runs.specs.Marking as runs
-use Rattle.runs.specs.Marking.{ins_of, del_of}
+use Rattle.runs.specs.Marking.{old_mark, ins_of, del_of}
 use Rattle.walks.specs.Memory.{mark_in, memory_of}
-use Rattle.walks.specs.Courses.{Course, Linked, Link, Laws}
+use Rattle.walks.specs.Courses.{Course, Earlier, Linked, Link, Laws}
 use Rattle.walks.specs.Steps.{Links}
 use Rattle.walks.specs.Told.{TellsMark, MarksTell}
 use Rattle.walks.specs.Histories.{run_course}
 use Rattle.walks.specs.Marking.{RunsTellMarks}
-use Rattle.walks.proofs.Times.{later}
+use Rattle.walks.proofs.Times.{same_stamp}
 use Rattle.walks.proofs.Steps.{steps_give_laws}
 use Rattle.walks.proofs.Effects.{row_is}
-use Rattle.walks.proofs.Decides.{linked_or}
-use Rattle.walks.proofs.Histories.{traced, sizes_at, at_time, Comes, comes, linked_by}
+use Rattle.runs.proofs.Decides.{linked_or}
+use Rattle.walks.proofs.Histories.{traced, sizes_at, at_time, head_then, old_comes, Comes, comes, linked_by}
 use Rattle.walks.proofs.RunSteps.{links_of}
 use Rattle.walks.proofs.RunCourses.{runs_give_steps}
 
@@ -64,7 +64,7 @@ change_named : (s : State) (d : Change) → FitChange s d → Named s.sizes (cel
 change_named s (change.Vertex i) f = f
 change_named s (change.Edge b) f = f.keys
 
-module _ (sound : RunsSound) (stamp : RunsStamp) (step : RunsStep) (last : RunsLast) (know : RunsKnow) (events : RunsEvents) (R : Run) (now : ℕ) where
+module _ (sound : RunsSound) (keep : RunsKeepLaws) (stamp : RunsStamp) (step : RunsStep) (last : RunsLast) (know : RunsKnow) (events : RunsEvents) (R : Run) (now : ℕ) where
   abbrev c : Course
   c = run_course R now
 
@@ -74,11 +74,12 @@ module _ (sound : RunsSound) (stamp : RunsStamp) (step : RunsStep) (last : RunsL
   law : Laws c n
   law = steps_give_laws c n (runs_give_steps stamp step last know events R now)
 
-  comes_of : (h : Head) (r : ℕ) (w : Linked c now h r) → Comes stamp R step last now w.time h r
+  comes_of : (h : Head) (r : ℕ) (w : Earlier now (λ p. Link c p h r)) → Comes stamp R step last now w.time h r
   comes_of h r w = comes stamp R step last now w.time h r w.was.row w.was.is w.was.moved
 
   linked_now : (h : Head) (r : ℕ) → Linked c now h r → LinkedAt R now (head_kind h) r
-  linked_now h r w = ((last R).times (suc w.time) now w.before).linked (head_kind h) r (linked_by stamp R step last now w.time h r (comes_of h r w).by)
+  linked_now h r (inl o) = ((last R).times 0 now (omega arith)).linked (head_kind h) r (old_comes stamp R step last now h r o).linked
+  linked_now h r (inr w) = ((last R).times (suc w.time) now w.before).linked (head_kind h) r (linked_by stamp R step last now w.time h r (comes_of h r w).by)
 
   link_event : (p : ℕ) (d : Change) (r : ℕ) → LinkStep R p d r → (b : ℕ) × LinkEvent R p b d r
   link_event p d r s = by_worker ((know R).workers p s.worker s.turn.within)
@@ -90,13 +91,13 @@ module _ (sound : RunsSound) (stamp : RunsStamp) (step : RunsStep) (last : RunsL
   -- the change of a link is of keys of the opening
   named : (p : ℕ) (d : Change) (r : ℕ) → LinkStep R p d r → Named R.sizes (cell.Head (change_head d))
   named p d r s =
-      let fits = (sound R.sizes R.cells R.room (history_at R p) (R.state p) (traced R p)).places s.worker (subst (λ (z : Sizes). s.worker < z.workers) (sym (sizes_at stamp R p)) s.turn.within) in
+      let fits = (sound (R.state 0) R.clean (history_at R p) (R.state p) (traced R p)).places s.worker (subst (λ (z : Sizes). s.worker < z.workers) (sym (sizes_at stamp R p)) s.turn.within) in
       let fit : FitPlace (R.state p) (place.Link d (head_at R p (change_head d))) = subst (FitPlace (R.state p)) s.turn.place fits in
       subst (λ z. Named z (cell.Head (change_head d))) (sizes_at stamp R p) (change_named (R.state p) d fit.0)
 
   -- a row that a step links is linked in the course
   linked_from : (p : ℕ) (d : Change) (r : ℕ) → p < now → LinkStep R p d r → Linked c now (change_head d) r
-  linked_from p d r l s = record { time = p; before = l; was = ⊎_elim same (λ (x : Link c p (change_head d) ((c.at (suc p)).head (change_head d))). subst (Link c p (change_head d)) links.is x) (law.heads p (change_head d)) }
+  linked_from p d r l s = inr (record { time = p; before = l; was = ⊎_elim same (λ (x : Link c p (change_head d) ((c.at (suc p)).head (change_head d))). subst (Link c p (change_head d)) links.is x) (law.heads p (change_head d)) })
     where
       links : Links c n p (change_head d) r
       links = links_of stamp step last know events R now p l d r s (named p d r s)
@@ -104,22 +105,50 @@ module _ (sound : RunsSound) (stamp : RunsStamp) (step : RunsStep) (last : RunsL
       same : (c.at (suc p)).head (change_head d) ≡ (c.at p).head (change_head d) → Link c p (change_head d) r
       same e = absurd (links.fresh p (omega arith) (sym e ∙ links.is))
 
+  -- a row from before the start, by its head in the course
+  old_linked : (g : Kind) (r : ℕ) → LinkedAt R 0 g r → (h : Head) × (head_kind h ≡ g) × Linked c now h r
+  old_linked g r o =
+      let x = (last R).old_row g r o in
+      (x.head, x.kind, inl (record { row = (row_is (R.state 0) g r o).0; is = head_then stamp R step last now 0 x.head (omega arith) x.named ∙ x.is }))
+
+  old_stamp_low : (g : Kind) (r : ℕ) → LinkedAt R 0 g r → (y : ℕ) → mark_at R now g Ins r ≡ Stamp y → y ≤ clock_at R 0
+  old_stamp_low g r o y e =
+      let row = (last R).old_row g r o in
+      let then : mark_at R now g Ins r ≡ Stamp row.number = ((last R).times 0 now (omega arith)).stamp g Ins r row.number o row.stamp in
+      let same : y ≡ row.number = same_stamp e then in
+      omega (arith, same, row.low)
+
+  -- the clock at the start, as the course has it
+  first_is : clock_at R 0 ≡ (c.at 0).clock
+  first_is = ap (clock_at R) (at_time stamp R step last now 0 (omega arith))
+
   module _ (m : Marks) (tell : runs.MarksTell R now m) where
     key_is : (i r : ℕ) → Linked c now (head.Vertex i) r → m.key_of r ≡ i
-    key_is i r w =
+    key_is i r (inl o) = (let x = old_comes stamp R step last now (head.Vertex i) r o in tell.old_key i r x.named x.is o.row)
+    key_is i r (inr w) =
         let x = comes_of (head.Vertex i) r w in
         let e = link_event w.time x.by.change r x.by.step in
         tell.key w.time e.0 i r (subst (λ d. LinkEvent R w.time e.0 d r) (key_change x.by.change i x.by.head) e.1) w.before
 
     -- a row whose mark of ins is a number up to the clock is linked
     born : (g : Kind) (r : ℕ) → (ins_of m g r).stamp ≤ clock_at R now → LinkedAt R now g r
-    born g r l = ⊎_elim (λ (x : LinkedAt R now g r). x) (λ (x : ¬ (LinkedAt R now g r)). absurd (none x)) (linked_or (R.state now) g r)
+    born g r l = ⊎_elim (λ (x : LinkedAt R now g r). x) (λ (x : ¬ (LinkedAt R now g r)). absurd (none x)) (linked_or sound keep stamp step last know R now g r)
       where
         none : ¬ (LinkedAt R now g r) → ⊥
         none x = (let e = ap (λ (v : Mark). v.stamp) (tell.unborn g r (λ y. x y.0)) in omega arith)
 
-    ins_told : (g : Kind) (r : ℕ) → LinkedAt R now g r → (v : places.Mark) → mark_at R now g Ins r ≡ v → TellsMark (clock_at R now) v (ins_of m g r).stamp
-    ins_told g r l (Stamp y) e = (let p = (events R).linked now g r l in (ap (λ (v : Mark). v.stamp) (tell.born g r p.time y l p.held e), ((events R).link_stamp g r p.time now y p.held p.before e).1))
+    ins_told : (g : Kind) (r : ℕ) → LinkedAt R now g r → (v : places.Mark) → mark_at R now g Ins r ≡ v → TellsMark (clock_at R 0) (clock_at R now) v (ins_of m g r).stamp
+    ins_told g r l (Stamp y) e = by_way ((events R).linked now g r l)
+      where
+        old_small : (g : Kind) → (old_mark R g).stamp ≤ clock_at R 0
+        old_small kind.Vertex = omega arith
+        old_small kind.Edge = omega arith
+
+        by_way : LinkedAt R 0 g r ⊎ Past now (Linking R g r) → (((ins_of m g r).stamp ≡ y) ⊎ (((ins_of m g r).stamp ≤ clock_at R 0) × (y ≤ clock_at R 0))) × (y ≤ clock_at R now)
+        by_way (inl o) =
+            let z : y ≤ clock_at R 0 = old_stamp_low g r o y e in
+            (inr (subst (λ (v : Mark). v.stamp ≤ clock_at R 0) (sym (tell.old g r o)) (old_small g), z), omega (arith, z, ((last R).times 0 now (omega arith)).clock))
+        by_way (inr p) = (inl (ap (λ (v : Mark). v.stamp) (tell.born g r p.time y l p.held e)), ((events R).link_stamp g r p.time now y p.held p.before e).1)
     ins_told g r l NotEnded e = (let q = ap (λ (v : Mark). v.stamp) (tell.unborn g r (λ y. no_stamp y.1.number (sym e ∙ y.1.is))) in omega arith)
       where
         no_stamp : (x : ℕ) → ¬ (NotEnded ≡ Stamp x)
@@ -129,10 +158,10 @@ module _ (sound : RunsSound) (stamp : RunsStamp) (step : RunsStep) (last : RunsL
         no_stamp : (x : ℕ) → ¬ (Pending ≡ Stamp x)
         no_stamp x z = absurd cc
 
-    del_told : (g : Kind) (r : ℕ) → LinkedAt R now g r → (v : places.Mark) → mark_at R now g Del r ≡ v → TellsMark (clock_at R now) v (del_of m g r).stamp
+    del_told : (g : Kind) (r : ℕ) → LinkedAt R now g r → (v : places.Mark) → mark_at R now g Del r ≡ v → TellsMark (clock_at R 0) (clock_at R now) v (del_of m g r).stamp
     del_told g r l (Stamp y) e =
         let p = (events R).ended now g r l (λ z. no_stamp (sym e ∙ z)) in
-        (ap (λ (v : Mark). v.stamp) (tell.ended g r p.time y l p.held e), ((events R).end_stamp g r p.time now y p.held p.before e).1)
+        (inl (ap (λ (v : Mark). v.stamp) (tell.ended g r p.time y l p.held e)), ((events R).end_stamp g r p.time now y p.held p.before e).1)
       where
         no_stamp : ¬ (Stamp y ≡ NotEnded)
         no_stamp z = absurd cc
@@ -152,12 +181,19 @@ module _ (sound : RunsSound) (stamp : RunsStamp) (step : RunsStep) (last : RunsL
         omega (arith, small)
 
     vertex_born : (r : ℕ) → (m.vertex_ins r).stamp ≤ clock_at R now → Linked c now (head.Vertex (m.key_of r)) r
-    vertex_born r l =
-        let p = (events R).linked now kind.Vertex r (born kind.Vertex r l) in
-        let d = vertex_change p.held.change p.held.kind in
-        let event : LinkEvent R p.time p.held.began (change.Vertex d.0) r = subst (λ e. LinkEvent R p.time p.held.began e r) d.1 p.held.event in
-        let linked : Linked c now (head.Vertex d.0) r = linked_from p.time (change.Vertex d.0) r p.before event.step in
-        subst (λ i. Linked c now (head.Vertex i) r) (sym (key_is d.0 r linked)) linked
+    vertex_born r l = by_way ((events R).linked now kind.Vertex r (born kind.Vertex r l))
+      where
+        by_way : LinkedAt R 0 kind.Vertex r ⊎ Past now (Linking R kind.Vertex r) → Linked c now (head.Vertex (m.key_of r)) r
+        by_way (inl o) = (let x = old_linked kind.Vertex r o in by_head x.0 x.1 x.2)
+          where
+            by_head : (h : Head) → head_kind h ≡ kind.Vertex → Linked c now h r → Linked c now (head.Vertex (m.key_of r)) r
+            by_head (head.Edge i j) q w = absurd cc
+            by_head (head.Vertex i) q w = subst (λ i. Linked c now (head.Vertex i) r) (sym (key_is i r w)) w
+        by_way (inr p) =
+            let d = vertex_change p.held.change p.held.kind in
+            let event : LinkEvent R p.time p.held.began (change.Vertex d.0) r = subst (λ e. LinkEvent R p.time p.held.began e r) d.1 p.held.event in
+            let linked : Linked c now (head.Vertex d.0) r = linked_from p.time (change.Vertex d.0) r p.before event.step in
+            subst (λ i. Linked c now (head.Vertex i) r) (sym (key_is d.0 r linked)) linked
 
     source_told : (e : ℕ) → m.source e ≡ c.source e
     source_told e = tell.source e ∙ ap (λ k. number_at R k (cell.Source e)) (at_time stamp R step last now now (omega arith))
@@ -168,24 +204,34 @@ module _ (sound : RunsSound) (stamp : RunsStamp) (step : RunsStep) (last : RunsL
     weight_told : (e : ℕ) → m.weight e ≡ c.weight e
     weight_told e = tell.weight e ∙ ap (λ k. number_at R k (cell.Weight e)) (at_time stamp R step last now now (omega arith))
 
+    edge_named : (i j e : ℕ) → Linked c now (head.Edge i j) e → Linked c now (head.Edge (m.key_of (m.source e)) (m.key_of (m.target e))) e
+    edge_named i j e w =
+        let binds = law.binds now i j e w in
+        let from = ap m.key_of (source_told e) ∙ key_is i (c.source e) binds.source in
+        let to = ap m.key_of (target_told e) ∙ key_is j (c.target e) binds.target in
+        subst₂ (λ i j. Linked c now (head.Edge i j) e) (sym from) (sym to) w
+
     edge_born : (e : ℕ) → (m.edge_ins e).stamp ≤ clock_at R now → Linked c now (head.Edge (m.key_of (m.source e)) (m.key_of (m.target e))) e
-    edge_born e l =
-        let p = (events R).linked now kind.Edge e (born kind.Edge e l) in
-        let d = edge_change p.held.change p.held.kind in
-        let event : LinkEvent R p.time p.held.began (change.Edge d.0) e = subst (λ x. LinkEvent R p.time p.held.began x e) d.1 p.held.event in
-        let linked : Linked c now (head.Edge d.0.pair.from d.0.pair.to) e = linked_from p.time (change.Edge d.0) e p.before event.step in
-        let binds = law.binds linked.time d.0.pair.from d.0.pair.to e linked.was in
-        let from = ap m.key_of (source_told e) ∙ key_is d.0.pair.from (c.source e) (later (omega (arith, linked.before)) binds.source) in
-        let to = ap m.key_of (target_told e) ∙ key_is d.0.pair.to (c.target e) (later (omega (arith, linked.before)) binds.target) in
-        subst₂ (λ i j. Linked c now (head.Edge i j) e) (sym from) (sym to) linked
+    edge_born e l = by_way ((events R).linked now kind.Edge e (born kind.Edge e l))
+      where
+        by_way : LinkedAt R 0 kind.Edge e ⊎ Past now (Linking R kind.Edge e) → Linked c now (head.Edge (m.key_of (m.source e)) (m.key_of (m.target e))) e
+        by_way (inl o) = (let x = old_linked kind.Edge e o in by_head x.0 x.1 x.2)
+          where
+            by_head : (h : Head) → head_kind h ≡ kind.Edge → Linked c now h e → Linked c now (head.Edge (m.key_of (m.source e)) (m.key_of (m.target e))) e
+            by_head (head.Vertex i) q w = absurd cc
+            by_head (head.Edge i j) q w = edge_named i j e w
+        by_way (inr p) =
+            let d = edge_change p.held.change p.held.kind in
+            let event : LinkEvent R p.time p.held.began (change.Edge d.0) e = subst (λ x. LinkEvent R p.time p.held.began x e) d.1 p.held.event in
+            edge_named d.0.pair.from d.0.pair.to e (linked_from p.time (change.Edge d.0) e p.before event.step)
 
-    ins_now : (h : Head) (r : ℕ) → Linked c now h r → TellsMark (clock_at R now) (mark_in (c.at now) (head_kind h) Ins r) (ins_of m (head_kind h) r).stamp
-    ins_now h r w = subst (λ k. TellsMark (clock_at R now) (mark_in (memory_of (R.state k)) (head_kind h) Ins r) (ins_of m (head_kind h) r).stamp) (at_time stamp R step last now now (omega arith))
-        (ins_told (head_kind h) r (linked_now h r w) (mark_at R now (head_kind h) Ins r) refl)
+    ins_now : (h : Head) (r : ℕ) → Linked c now h r → TellsMark (c.at 0).clock (clock_at R now) (mark_in (c.at now) (head_kind h) Ins r) (ins_of m (head_kind h) r).stamp
+    ins_now h r w = subst (λ a. TellsMark a (clock_at R now) (mark_in (c.at now) (head_kind h) Ins r) (ins_of m (head_kind h) r).stamp) first_is (subst (λ k. TellsMark (clock_at R 0) (clock_at R now) (mark_in (memory_of (R.state k)) (head_kind h) Ins r) (ins_of m (head_kind h) r).stamp) (at_time stamp R step last now now (omega arith))
+        (ins_told (head_kind h) r (linked_now h r w) (mark_at R now (head_kind h) Ins r) refl))
 
-    del_now : (h : Head) (r : ℕ) → Linked c now h r → TellsMark (clock_at R now) (mark_in (c.at now) (head_kind h) Del r) (del_of m (head_kind h) r).stamp
-    del_now h r w = subst (λ k. TellsMark (clock_at R now) (mark_in (memory_of (R.state k)) (head_kind h) Del r) (del_of m (head_kind h) r).stamp) (at_time stamp R step last now now (omega arith))
-        (del_told (head_kind h) r (linked_now h r w) (mark_at R now (head_kind h) Del r) refl)
+    del_now : (h : Head) (r : ℕ) → Linked c now h r → TellsMark (c.at 0).clock (clock_at R now) (mark_in (c.at now) (head_kind h) Del r) (del_of m (head_kind h) r).stamp
+    del_now h r w = subst (λ a. TellsMark a (clock_at R now) (mark_in (c.at now) (head_kind h) Del r) (del_of m (head_kind h) r).stamp) first_is (subst (λ k. TellsMark (clock_at R 0) (clock_at R now) (mark_in (memory_of (R.state k)) (head_kind h) Del r) (del_of m (head_kind h) r).stamp) (at_time stamp R step last now now (omega arith))
+        (del_told (head_kind h) r (linked_now h r w) (mark_at R now (head_kind h) Del r) refl))
 
     marks_tell : MarksTell c now (clock_at R now) m
     marks_tell = record {
@@ -202,5 +248,5 @@ module _ (sound : RunsSound) (stamp : RunsStamp) (step : RunsStep) (last : RunsL
       weight = λ i j e w. weight_told e;
     }
 
-pub runs_tell_marks : RunsSound → RunsStamp → RunsStep → RunsLast → RunsKnow → RunsEvents → RunsTellMarks
-runs_tell_marks sound stamp step last know events R now m tell = marks_tell sound stamp step last know events R now m tell
+pub runs_tell_marks : RunsSound → RunsKeepLaws → RunsStamp → RunsStep → RunsLast → RunsKnow → RunsEvents → RunsTellMarks
+runs_tell_marks sound keep stamp step last know events R now m tell = marks_tell sound keep stamp step last know events R now m tell

@@ -183,16 +183,21 @@ module _ (stamp : RunsStamp) (step : RunsStep) (last : RunsLast) (know : RunsKno
 
     -- a row that is linked was no head before
     fresh : (d : Change) (r : ℕ) → LinkStep R k d r → Named R.sizes (cell.Head (change_head d)) → 0 < r → (q : ℕ) → q ≤ k → (c.at q).head (change_head d) ≢ r
-    fresh d r s m o q u e = s.fresh (((last R).times (suc p.time) k (omega (arith, p.before))).linked (change_kind d) r was)
+    fresh d r s m o q u e = ⊎_elim old later ((last R).head q (change_head d) m (omega (arith, o, here)))
       where
         here : head_at R q (change_head d) ≡ r
         here = sym (head_then stamp R step last now q (change_head d) (omega arith) m) ∙ e
 
-        p : Past q (λ t. LinkedBy R t (change_head d) r)
-        p = subst (λ x. Past q (λ t. LinkedBy R t (change_head d) x)) here ((last R).head q (change_head d) m (omega (arith, o, here)))
+        old : head_at R q (change_head d) ≡ head_at R 0 (change_head d) → ⊥
+        old x =
+            let was : LinkedAt R 0 (change_kind d) r = subst (LinkedAt R 0 (change_kind d)) (sym x ∙ here) ((last R).old_head (change_head d) m (omega (arith, o, here, x))) in
+            s.fresh (((last R).times 0 k (omega arith)).linked (change_kind d) r was)
 
-        was : LinkedAt R (suc p.time) (change_kind d) r
-        was = subst (λ g. LinkedAt R (suc p.time) (head_kind g) r) p.held.head p.held.step.linked
+        later : Past q (λ t. LinkedBy R t (change_head d) (head_at R q (change_head d))) → ⊥
+        later y =
+            let p : Past q (λ t. LinkedBy R t (change_head d) r) = subst (λ x. Past q (λ t. LinkedBy R t (change_head d) x)) here y in
+            let was : LinkedAt R (suc p.time) (change_kind d) r = subst (λ g. LinkedAt R (suc p.time) (head_kind g) r) p.held.head p.held.step.linked in
+            s.fresh (((last R).times (suc p.time) k (omega (arith, p.before))).linked (change_kind d) r was)
 
     pub links_of : (d : Change) (r : ℕ) → LinkStep R k d r → Named R.sizes (cell.Head (change_head d)) → Links c n k (change_head d) r
     links_of d r s m = record {

@@ -82,12 +82,12 @@ not_idle p (at_field st f k r) = refl
 same_surveyor : (s t : State) (w : ℕ) → worker_at t w ≡ worker_at s w → page_of t w ≡ page_of s w → surveyor_of t w ≡ surveyor_of s w
 same_surveyor s t w a b = λ i. record { place = (a i).place; book = (a i).book; page = b i }
 
-same_going : {g : Going} {s : Surveyor} → g.out ≡ Continue s.place → g.book ≡ s.book → g.page ≡ s.page → g ≡ goes_to s
+pub same_going : {g : Going} {s : Surveyor} → g.out ≡ Continue s.place → g.book ≡ s.book → g.page ≡ s.page → g ≡ goes_to s
 same_going a b c = λ i. record { out = a i; book = b i; page = c i }
 
 module _ (s : State) (w : ℕ) (inside : w < s.sizes.workers) (sound : Sound s) (at : InSurvey (worker_at s w).place) where
   fit : Fit s w
-  fit = record { worker = inside; cells = sound.cells; place = sound.places w inside }
+  fit = record { worker = inside; cells = sound.cells; counted = sound.counted; place = sound.places w inside }
 
   -- what a request does to the worker: nothing, or a turn that does not answer; or it answers
   pub data Does (t : State) (q : Request) : Type 0 where
@@ -95,7 +95,7 @@ module _ (s : State) (w : ℕ) (inside : w < s.sizes.workers) (sound : Sound s) 
     goes_on : goes s w ≡ goes_to (surveyor_of t w) → TurnDone s.sizes.top (memory_of s) (memory_of t) (surveyor_of s w) → Does t q
     answers : (a : Answer) → q ≡ request.Turn w → reply_of s (request.Turn w) ≡ reply.Answered a → Does t q
 
-  begin_rests : (b : Begin) (r : Result Call Refusal) → begun_as s b ≡ r → surveyor_of (state_begun s b.worker r) w ≡ surveyor_of s w
+  pub begin_rests : (b : Begin) (r : Result Call Refusal) → begun_as s b ≡ r → surveyor_of (state_begun s b.worker r) w ≡ surveyor_of s w
   begin_rests b (Err e) q = refl
   begin_rests b (Ok c) q = ⊎_elim (λ (e : w ≡ b.worker). absurd (busy e)) (λ (n : ¬ (w ≡ b.worker)). same_surveyor s (state_begun s b.worker (Ok c)) w (get_or-set_other s.workers b.worker w (begun (worker_at s b.worker) c) nobody n) refl) (cases_eq w b.worker)
     where
@@ -121,7 +121,7 @@ module _ (s : State) (w : ℕ) (inside : w < s.sizes.workers) (sound : Sound s) 
           (sym (turns_write s w fit at ∙ g.page))) (turns_go s w fit at).1
       by_out (Break a) e = answers a refl (ap (λ r. answered_or (unless_refused r (answer_at s w))) u ∙ ap (λ x. answered_or (Ok x)) (g.answer ∙ ap out_answer e))
 
-  other_turn : (v : ℕ) → ¬ (w ≡ v) → TurnLaws s v → surveyor_of (turned s v) w ≡ surveyor_of s w
+  pub other_turn : (v : ℕ) → ¬ (w ≡ v) → TurnLaws s v → surveyor_of (turned s v) w ≡ surveyor_of s w
   other_turn v n law = same_surveyor s (turned s v) w (law.records w n)
       (page_stays s.sizes w inside s.cells (turned s v).cells (λ k l. law.pages w (cell.PageKey w k) (inside, l) refl n) (λ i j l m. law.pages w (cell.PagePair w i j) (inside, l, m) refl n))
 
@@ -188,7 +188,7 @@ module _ (sound : RunsSound) (keep : RunsKeepLaws) (stamp : RunsStamp) (know : R
           subst (InCall (place_at R k w)) c_is i
 
   pub sound_at : (k : ℕ) → Sound (R.state k)
-  sound_at k = sound R.sizes R.cells R.room (history_at R k) (R.state k) (traced R k)
+  sound_at k = sound (R.state 0) R.clean (history_at R k) (R.state k) (traced R k)
 
   pub within : (k : ℕ) → w < (R.state k).sizes.workers
   within k = subst (λ (z : Sizes). w < z.workers) (sym (sizes_at stamp R k)) inside
@@ -233,7 +233,7 @@ module _ (sound : RunsSound) (keep : RunsKeepLaws) (stamp : RunsStamp) (know : R
     turns k l u = by_case (does (R.state k) w (within k) (sound_at k) (in_survey (place_at R k w) v (in_call_then k l (omega arith))) laws (R.request k))
       where
         laws : (x : ℕ) → x < (R.state k).sizes.workers → TurnLaws (R.state k) x
-        laws x m = keep R.sizes R.cells R.room (history_at R k) (R.state k) (traced R k) x m
+        laws x m = keep (R.state 0) R.clean (history_at R k) (R.state k) (traced R k) x m
 
         by_case : Does (R.state k) w (within k) (sound_at k) (in_survey (place_at R k w) v (in_call_then k l (omega arith))) (stepped (R.state k) (R.request k)) (R.request k) → Turns k (suc k)
         by_case (rests e) = inl (subst (λ t. surveyor_of t w ≡ surveyor_of (R.state k) w) (sym (R.next k)) e)

@@ -18,7 +18,7 @@ use Rattle.books.specs.Serving.{open_pair, open_at, leg_at, leg_number, first_op
 use Rattle.walks.specs.Courses.{Course, Laws}
 use Rattle.walks.specs.Visible.{Found}
 use Rattle.walks.specs.Pages.{Page}
-use Rattle.walks.proofs.Times.{ordered}
+use Rattle.walks.proofs.Times.{linked_some, ordered}
 use Rattle.walks.proofs.Drafts.{Draft, draft_of}
 use Rattle.walks.proofs.Known.{NoEdge, Shown, nothing, Served, Serving, KnowsJob}
 
@@ -72,19 +72,19 @@ module _ (c : Course) (n : ℕ) (law : Laws c n) (k : ℕ) where
   -- a pair that is not to be walked has no edge
   no_edge : (v : Survey) (b : Book) (p : Page) (x i j : ℕ) → Serving c n k v (draft_of b p) x → open_pair b v i j ≡ false → NoEdge c b.t k i j
   no_edge Snapshot b p x i j s e l f a w =
-      let g = law.binds _ i j f w.row.linked.was in
+      let g = law.binds _ i j f w.row.linked in
       let m = (s.mode.2 i g.from) in
       let o = (s.mode.2 j g.to) in
       let q = (s.rows i g.from m.0).only l _ a w.source tt in
       let r = (s.rows j g.to o.0).only l _ a w.target tt in
-      let y = w.source.linked.was.row in
-      let z = w.target.linked.was.row in
+      let y = linked_some w.source.linked in
+      let z = linked_some w.target.linked in
       let apart = g.apart in
       shut_keys (eqb i j) (eqb (shown_of b i) no_row) (eqb (shown_of b j) no_row) e (grind (arith, nat_tests)) (some_key (shown_of b i) (omega (arith, m.1))) (some_key (shown_of b j) (omega (arith, o.1)))
     where
       some_key : (y : ℕ) → 0 < y → eqb y no_row ≡ false
       some_key y l = grind (arith, nat_tests)
-  no_edge (Reach y) b p x i j s e l f a w = let d = (law.binds _ i j f w.row.linked.was).apart in grind (arith, nat_tests)
+  no_edge (Reach y) b p x i j s e l f a w = let d = (law.binds _ i j f w.row.linked).apart in grind (arith, nat_tests)
 
   -- a pair with no edge is served as it is
   pub served_none : (v : Survey) (d : Draft) (x i j : ℕ) → Serving c n k v d x → NoEdge c d.t k i j → Served c n k d i j

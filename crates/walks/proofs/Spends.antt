@@ -20,6 +20,7 @@ use Rattle.walks.specs.Courses.{Course, Linked, Laws}
 use Rattle.walks.specs.Visible.{Found}
 use Rattle.walks.specs.Pages.{Page, with_key, with_pair, written}
 use Rattle.walks.specs.Budgets.{sum_below, links_over}
+use Rattle.walks.proofs.Times.{linked_some}
 use Rattle.walks.proofs.Drafts.{Draft, draft_of, walk_in, join_in, put_here, Kept, draft_walked, kept_walked, draft_joined}
 use Rattle.walks.proofs.Known.{Serving, Turning, Rising, Leaving, IsLeg, KnowsJob}
 use Rattle.walks.proofs.Counts.{shown_fewer}
@@ -198,7 +199,7 @@ module _ (c : Course) (n : ℕ) (law : Laws c n) (some_key : 0 < n) (few : n ≤
       linked_row r z f = (found_stays c b.t k (head.Edge l.from l.to) r z f k (omega arith)).linked
 
       target_some : (r : ℕ) (h : Hand) → Linked c k (head.Edge l.from l.to) r → HandOf (c.at k) r h → 0 < h.target
-      target_some r h w o = omega (arith, o.target, law.target k l.from l.to r w, (law.binds w.time l.from l.to r w.was).target.was.row)
+      target_some r h w o = omega (arith, o.target, law.target k l.from l.to r w, linked_some (law.binds k l.from l.to r w).target)
 
       pair_spent : (v : Survey) (r : ℕ) (h : Hand) → Turning c n k v b p number → Found c b.t k (head.Edge l.from l.to) r → (0 < r → HandOf (c.at k) r h) → Once n v e →
           m ≤ serving c n k e number + (8 + links_over c k (head.Edge l.from l.to)) → Spends c n k m v p (pair_walked b v n l r h)

@@ -27,7 +27,7 @@ use Rattle.walks.specs.Memory.{mark_in}
 use Rattle.walks.specs.Courses.{Course, Stamped, Linked, Laws}
 use Rattle.walks.specs.Visible.{StaysVisible, Found}
 use Rattle.walks.specs.Walking.{hand_in, next_in, Done, Walking, WalksFind}
-use Rattle.walks.proofs.Times.{later, clock_mono, begun_later, stamped_later, ins_filled, head_linked}
+use Rattle.walks.proofs.Times.{linked_later, linked_some, clock_mono, begun_later, stamped_later, ins_filled, head_linked}
 use Rattle.walks.proofs.Chains.{Above, Below, Chain, below_later, chain_later, chain_start, chain_down, row_below, found_none, found_open, found_late, found_ended}
 
 abbrev pub head_of : Walk → Head
@@ -110,10 +110,10 @@ module _ (c : Course) (n : ℕ) (law : Laws c n) where
     -- what is known stays known
     pub knows_later : (k l : ℕ) (p : Place) → k ≤ l → Knows c t w k p → Knows c t w l p
     knows_later k l p u at_head = at_head
-    knows_later k l p u (at_ins st r a m b) = at_ins st r (chain_later c n law t k l h r u a) (later u m) (stage_later k l Ins r st u m b)
-    knows_later k l p u (at_older r a m b) = at_older r (chain_later c n law t k l h r u a) (later u m) (stamped_later c n law k l h Ins r u m b)
+    knows_later k l p u (at_ins st r a m b) = at_ins st r (chain_later c n law t k l h r u a) (linked_later u m) (stage_later k l Ins r st u m b)
+    knows_later k l p u (at_older r a m b) = at_older r (chain_later c n law t k l h r u a) (linked_later u m) (stamped_later c n law k l h Ins r u m b)
     knows_later k l p u (at_del st r a m b s) =
-        at_del st r (chain_later c n law t k l h r u a) (later u m) (below_later c n law t k l h r u m b) (stage_later k l Del r st u m s)
+        at_del st r (chain_later c n law t k l h r u a) (linked_later u m) (below_later c n law t k l h r u m b) (stage_later k l Del r st u m s)
 
     next_later : (k l y : ℕ) (x : Next) → k ≤ l → KnowsNext c t w k k y x → KnowsNext c t w k l y x
     next_later k l y x u (goes_on p a) = goes_on p (knows_later k l p u a)
@@ -132,8 +132,8 @@ module _ (c : Course) (n : ℕ) (law : Laws c n) where
         lower : (s : ℕ) → Above c t k (head_kind h) r → c.older (head_kind h) r ≡ s →
             KnowsNext c t w k k y (cond (eqb s no_row) (next.Walked w no_row) (next.Out (Continue (place.WalkOlder w s))))
         lower s up e = elim (row_or_none s) [
-          | inl (q, z) ↦ rw q (has_found no_row (found_none c n law t k h (rw (e ∙ z) at (chain_down c n law t k h r a m.was.row up))) (inl refl))
-          | inr (q, z) ↦ (let (linked, stamped) = row_below c n law t k h r s a m.was.row e z in rw q (goes_on _ (at_older s (rw e at (chain_down c n law t k h r a m.was.row up)) linked stamped)))
+          | inl (q, z) ↦ rw q (has_found no_row (found_none c n law t k h (rw (e ∙ z) at (chain_down c n law t k h r a (linked_some m) up))) (inl refl))
+          | inr (q, z) ↦ (let (linked, stamped) = row_below c n law t k h r s a (linked_some m) e z in rw q (goes_on _ (at_older s (rw e at (chain_down c n law t k h r a (linked_some m) up)) linked stamped)))
         ]
 
         -- ins is settled at a stamp
@@ -157,13 +157,13 @@ module _ (c : Course) (n : ℕ) (law : Laws c n) where
         module _ (b : Below c t k (head_kind h) r) (own : job_edge w.job r ≡ y) where
           -- del is settled
           del_is : (hand : Hand) (v : Mark) → hand.t ≡ t → mark_in (c.at k) (head_kind h) Del r ≡ v → v ≢ Pending → KnowsNext c t w k k y (walked_del w r hand v)
-          del_is hand NotEnded e s d = has_found r (found_open c n law t k h r m.was.row now a m b s) (inr own)
+          del_is hand NotEnded e s d = has_found r (found_open c n law t k h r (linked_some m) now a m b s) (inr own)
           del_is hand Pending e s d = absurd (d refl)
           del_is hand (Stamp x) e s d = rw e (by_test (ltb t x) refl)
             where
               by_test : (q : Bool) → ltb t x ≡ q → KnowsNext c t w k k y (next.Walked w (cond q r no_row))
-              by_test true q = has_found r (found_late c n law t k h r x m.was.row (grind (arith, nat_tests)) a m b s) (inr own)
-              by_test false q = has_found no_row (found_ended c n law t k h r x m.was.row (grind (arith, nat_tests)) a m b s) (inl refl)
+              by_test true q = has_found r (found_late c n law t k h r x (linked_some m) (grind (arith, nat_tests)) a m b s) (inr own)
+              by_test false q = has_found no_row (found_ended c n law t k h r x (linked_some m) (grind (arith, nat_tests)) a m b s) (inl refl)
 
       again_mark : (f : Field) (r : ℕ) → Stamped c k (head_kind h) f r → mark_in (c.at k) (head_kind h) f r ≢ Pending
       again_mark f r s q = grind (arith, s.is)
@@ -194,7 +194,7 @@ module _ (c : Course) (n : ℕ) (law : Laws c n) where
       ins_turn top stage.Clock r a m b d =
           next_later k (suc k) y _ (omega arith) (goes_on _ (at_ins (stage.Swap (c.at k).clock) r a m (b, law.clock_stamps k)))
       ins_turn top (stage.Swap x) r a m b d =
-          goes_on _ (at_ins stage.Again r (chain_later c n law t k (suc k) h r (omega arith) a) (later (omega arith) m) (swapped Ins r x m b d))
+          goes_on _ (at_ins stage.Again r (chain_later c n law t k (suc k) h r (omega arith) a) (linked_later (omega arith) m) (swapped Ins r x m b d))
       ins_turn top stage.Again r a m b d =
           next_later k (suc k) y _ (omega arith) (ins_first r a m (hand_in (c.at k) t (place.Settle stage.Again (purpose.Walk Ins w r))) _ refl refl refl (again_mark Ins r b))
 
@@ -211,7 +211,7 @@ module _ (c : Course) (n : ℕ) (law : Laws c n) where
           by_test false q = del_is r a m b own (hand_in (c.at k) t (place.Settle stage.First (purpose.Walk Del w r))) (mark_of x) refl refl (settled_mark x q)
       del_turn top stage.Clock r own a m b s d = next_later k (suc k) y _ (omega arith) (goes_on _ (at_del (stage.Swap (c.at k).clock) r a m b (s, law.clock_stamps k)))
       del_turn top (stage.Swap x) r own a m b s d =
-          goes_on _ (at_del stage.Again r (chain_later c n law t k (suc k) h r (omega arith) a) (later (omega arith) m) (below_later c n law t k (suc k) h r (omega arith) m b) (swapped Del r x m s d))
+          goes_on _ (at_del stage.Again r (chain_later c n law t k (suc k) h r (omega arith) a) (linked_later (omega arith) m) (below_later c n law t k (suc k) h r (omega arith) m b) (swapped Del r x m s d))
       del_turn top stage.Again r own a m b s d =
           next_later k (suc k) y _ (omega arith) (del_is r a m b own (hand_in (c.at k) t (place.Settle stage.Again (purpose.Walk Del w r))) (mark_in (c.at k) (head_kind h) Del r) refl refl (again_mark Del r s))
 

@@ -10,6 +10,7 @@ use Rattle.places.specs.Marks.{mark_of}
 use Rattle.places.specs.declared.place.Survey.TheVariants.{Snapshot}
 use Rattle.walks.specs.Memory.{mark_in}
 use Rattle.walks.specs.Surveys.{turn_of, TurnDone, goes_to, Surveying}
+use Rattle.walks.specs.Courses.{Old}
 use Rattle.walks.specs.Steps.{Links, WasLinked, MarkMoves, stays, stamps, Steps}
 use Rattle.walks.specs.Worked.{memory_at, course, surveyor_at, Worked}
 
@@ -38,8 +39,14 @@ heads (suc (suc zero)) (head.Vertex (suc i)) = inl refl
 heads (suc (suc zero)) (head.Edge i j) = inl refl
 heads (suc (suc (suc k))) h = inl refl
 
+none_old : (h : Head) (r : ℕ) → Old course h r → ⊥
+none_old (head.Vertex zero) r o = omega (arith, o.row, o.is)
+none_old (head.Vertex (suc i)) r o = omega (arith, o.row, o.is)
+none_old (head.Edge i j) r o = omega (arith, o.row, o.is)
+
 marks : (k : ℕ) (h : Head) (f : Field) (r : ℕ) → WasLinked course 1 k h r → MarkMoves course 1 k h f r (mark_in (memory_at k) (head_kind h) f r) (mark_in (memory_at (suc k)) (head_kind h) f r)
-marks zero h f r w = absurd (omega (arith, w.before))
+marks zero h f r (inl o) = absurd (none_old h r o)
+marks zero h f r (inr w) = absurd (omega (arith, w.before))
 marks (suc zero) (head.Vertex i) Ins r w = stamps 1 1 refl refl (omega arith) w (λ q. grind arith) refl
 marks (suc zero) (head.Vertex i) Del r w = stays refl
 marks (suc zero) (head.Edge i j) f r w = stays refl
@@ -65,7 +72,7 @@ steps : Steps course 1
 steps = record {
   clock_rises = rises;
   clock_stamps = stamps_of;
-  empty = empty;
+  old = λ h r o. absurd (none_old h r o);
   heads = heads;
   marks = marks;
   older = λ k h r w. ap (λ f. f (head_kind h) r) (same k).0;
@@ -73,11 +80,6 @@ steps = record {
   target = λ k i j r w. ap (λ f. f r) (same k).2;
   weight = λ k i j r w. ap (λ f. f r) (same k).3;
 }
-  where
-    empty : (h : Head) → (memory_at 0).head h ≡ 0
-    empty (head.Vertex zero) = refl
-    empty (head.Vertex (suc i)) = refl
-    empty (head.Edge i j) = refl
 
 turns : (k : ℕ) → 2 ≤ k → k < 5 → (surveyor_at (suc k) ≡ surveyor_at k) ⊎
     ((turn_of 1 9 (memory_at k) (surveyor_at k) ≡ goes_to (surveyor_at (suc k))) × TurnDone 9 (memory_at k) (memory_at (suc k)) (surveyor_at k))

@@ -57,9 +57,19 @@ module _ (c : Course) where
     pub filled : mark_in (c.at (suc p)) (head_kind h) Ins r ≢ NotEnded
     pub over : ((c.at p).head h ≡ no_row) ⊎ (Stamped p (head_kind h) Ins ((c.at p).head h) × Gone p h ((c.at p).head h))
 
-  -- row r was linked over the head h before time k
+  -- row r is from before the start: it is the row of the head h at time 0
+  pub record Old (h : Head) (r : ℕ) : Type 0 where
+    pub row : 0 < r
+    pub is : (c.at 0).head h ≡ r
+
+  -- row r is from before the start, or was linked over the head h before time k
   abbrev pub Linked : ℕ → Head → ℕ → Type 0
-  Linked k h r = Earlier k (λ p. Link p h r)
+  Linked k h r = Old h r ⊎ Earlier k (λ p. Link p h r)
+
+  -- a row from before the start is over none, and bears the stamp of its ins
+  pub record OldRow (h : Head) (r : ℕ) : Type 0 where
+    pub under : c.older (head_kind h) r ≡ no_row
+    pub born : Stamped 0 (head_kind h) Ins r
 
   -- an edge row is bound to rows of its two keys, which are keys below n
   pub record Binding (n p i j r : ℕ) : Type 0 where
@@ -74,8 +84,8 @@ module _ (c : Course) where
     -- the clock never falls, and its numbers are stamps
     pub clock_rises : (k : ℕ) → (c.at k).clock ≤ (c.at (suc k)).clock
     pub clock_stamps : (k : ℕ) → mark_of (c.at k).clock ≡ Stamp (c.at k).clock
-    -- heads hold no row at first, and move only to a row that is linked over them
-    pub empty : (h : Head) → (c.at 0).head h ≡ no_row
+    -- heads hold no row or an old one at first, and move only to a row that is linked over them
+    pub old : (h : Head) (r : ℕ) → Old h r → OldRow h r
     pub heads : (k : ℕ) (h : Head) → ((c.at (suc k)).head h ≡ (c.at k).head h) ⊎ Link k h ((c.at (suc k)).head h)
     -- ins and del of a linked row keep their stamps, and do not go back to 0
     pub keeps : (k : ℕ) (h : Head) (f : Field) (r x : ℕ) → Linked k h r → mark_in (c.at k) (head_kind h) f r ≡ Stamp x →
@@ -94,6 +104,6 @@ module _ (c : Course) where
     pub target : (k i j r : ℕ) → Linked k (head.Edge i j) r → (c.at k).target r ≡ c.target r
     pub weight : (k i j r : ℕ) → Linked k (head.Edge i j) r → (c.at k).weight r ≡ c.weight r
     -- rows are linked over heads of keys below n, and edge rows are bound and have a weight
-    pub keys : (p i r : ℕ) → Link p (head.Vertex i) r → i < n
-    pub binds : (p i j r : ℕ) → Link p (head.Edge i j) r → Binding n p i j r
-    pub heavy : (p i j r : ℕ) → Link p (head.Edge i j) r → 0 < c.weight r
+    pub keys : (k i r : ℕ) → Linked k (head.Vertex i) r → i < n
+    pub binds : (k i j r : ℕ) → Linked k (head.Edge i j) r → Binding n k i j r
+    pub heavy : (k i j r : ℕ) → Linked k (head.Edge i j) r → 0 < c.weight r

@@ -8,6 +8,6 @@ use Rattle.walks.specs.Steps.{Steps}
 abbrev pub run_course : Run → ℕ → Course
 run_course R now = course_of (λ k. R.state (min k now)) now
 
--- the states of a run are a memory as walks asks, with the keys of the opening
+-- the states of a run are a memory as walks asks, with the keys of its sizes
 abbrev pub RunsGiveSteps : Type 0
 RunsGiveSteps = (R : Run) (now : ℕ) → Steps (run_course R now) R.sizes.keys

@@ -11,7 +11,6 @@ pub mod Turns
 pub mod Told
 pub mod Placed
 pub mod Histories
-pub mod Growth
 pub mod Marking
 pub mod Written
 pub mod Calls

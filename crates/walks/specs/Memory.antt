@@ -25,7 +25,7 @@ pub record Memory : Type 0 where
 abbrev pub mark_in : Memory → Kind → Field → ℕ → Mark
 mark_in m k f r = mark_of (m.stamp k f r)
 
--- the keys of a head are keys of the opening
+-- the keys of a head are keys of the sizes
 abbrev pub head_inside : Sizes → Head → Bool
 head_inside z (head.Vertex i) = nat_lt i z.keys
 head_inside z (head.Edge i j) = nat_lt i z.keys && nat_lt j z.keys

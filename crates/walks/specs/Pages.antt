@@ -40,9 +40,9 @@ written p (entry.Join i j x r) = with_key (with_pair p i j x) j r
 abbrev pub has_key : ℕ → Page → ℕ → Bool
 has_key n p k = nat_lt k n && not (p.key k == no_row)
 
--- a page of n keys, read as a graph
+-- a page of n keys, read as a graph, cell by cell
 abbrev pub graph_of : ℕ → Page → Graph
 graph_of n p = record {
   has = has_key n p;
-  edge = λ i j. cond (has_key n p i && has_key n p j) (weight_of (p.pair i j)) None;
+  edge = λ i j. cond (nat_lt i n && nat_lt j n) (weight_of (p.pair i j)) None;
 }

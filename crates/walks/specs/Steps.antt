@@ -11,7 +11,7 @@ use Rattle.places.specs.Touches.{head_kind}
 use Rattle.places.specs.declared.mark.Mark.{Mark}
 use Rattle.places.specs.declared.mark.Mark.TheVariants.{NotEnded, Pending, Stamp}
 use Rattle.walks.specs.Memory.{mark_in}
-use Rattle.walks.specs.Courses.{Course, Earlier, Stamped, Laws}
+use Rattle.walks.specs.Courses.{Course, Earlier, Stamped, Old, Laws}
 
 module _ (c : Course) (n : ℕ) where
   -- row x was the head of key i at a time from a to p
@@ -60,7 +60,28 @@ module _ (c : Course) (n : ℕ) where
     pub over : LinksOver p h r
 
   abbrev pub WasLinked : ℕ → Head → ℕ → Type 0
-  WasLinked k h r = Earlier k (λ p. Links p h r)
+  WasLinked k h r = Old c h r ⊎ Earlier k (λ p. Links p h r)
+
+  -- an edge row from before the start has a weight, and is bound to the heads of two keys
+  pub record OldEdge (i j r : ℕ) : Type 0 where
+    pub from : i < n
+    pub to : j < n
+    pub apart : i ≢ j
+    pub weight : 0 < c.weight r
+    pub source : Old c (head.Vertex i) (c.source r)
+    pub target : Old c (head.Vertex j) (c.target r)
+
+  abbrev pub OldOf : Head → ℕ → Type 0
+  OldOf (head.Vertex i) r = i < n
+  OldOf (head.Edge i j) r = OldEdge i j r
+
+  -- a row from before the start is over none, bears a stamp up to the clock, and has not ended
+  pub record OldStart (h : Head) (r : ℕ) : Type 0 where
+    pub under : c.older (head_kind h) r ≡ no_row
+    pub born : Stamped c 0 (head_kind h) Ins r
+    pub low : born.number ≤ (c.at 0).clock
+    pub alive : mark_in (c.at 0) (head_kind h) Del r ≡ NotEnded
+    pub of : OldOf h r
 
   -- what a step does to ins or del of a linked row
   pub data MarkMoves (k : ℕ) (h : Head) (f : Field) (r : ℕ) (v v' : Mark) : Type 0 where
@@ -73,7 +94,7 @@ module _ (c : Course) (n : ℕ) where
   pub record Steps : Type 0 where
     pub clock_rises : (k : ℕ) → (c.at k).clock ≤ (c.at (suc k)).clock
     pub clock_stamps : (k : ℕ) → mark_of (c.at k).clock ≡ Stamp (c.at k).clock
-    pub empty : (h : Head) → (c.at 0).head h ≡ no_row
+    pub old : (h : Head) (r : ℕ) → Old c h r → OldStart h r
     pub heads : (k : ℕ) (h : Head) → ((c.at (suc k)).head h ≡ (c.at k).head h) ⊎ Links k h ((c.at (suc k)).head h)
     pub marks : (k : ℕ) (h : Head) (f : Field) (r : ℕ) → WasLinked k h r →
         MarkMoves k h f r (mark_in (c.at k) (head_kind h) f r) (mark_in (c.at (suc k)) (head_kind h) f r)

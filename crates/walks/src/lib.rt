@@ -4,7 +4,6 @@
 ghost use Rattle.walks.specs.Answered.{RunsPagesRight};
 ghost use Rattle.walks.specs.Budgets.{TurnsFit};
 ghost use Rattle.walks.specs.Calls.{RunsSurvey};
-ghost use Rattle.walks.specs.Growth.{RunsGrowRows};
 ghost use Rattle.walks.specs.Histories.{RunsGiveSteps};
 ghost use Rattle.walks.specs.Marking.{RunsTellMarks};
 ghost use Rattle.walks.specs.Placed.{PagesShowRaise};
@@ -34,7 +33,7 @@ pub fn pages_show_visible_rows()
     ensures { PagesStand }
 {}
 
-// A snapshot or reach of n keys takes at most 1 + 8 · n · n turns, and one for each row that is linked.
+// A snapshot or reach of n keys takes at most 1 + 8 · n · n turns, and one for each row that is in a chain.
 pub fn turns_stay_within_limit()
     ensures { TurnsFit }
 {}
@@ -72,20 +71,12 @@ pub fn runs_give_steps()
     runs_events();
 }
 
-// The rows that its workers have linked grow by one where a head moves.
-pub fn runs_grow_rows()
-    ensures { RunsGrowRows }
-{
-    runs_stamp();
-    runs_step();
-    runs_last();
-}
-
 // The marks that a run gives to order are those of its states.
 pub fn runs_tell_marks()
     ensures { RunsTellMarks }
 {
     runs_sound();
+    runs_keep_laws();
     runs_stamp();
     runs_step();
     runs_last();

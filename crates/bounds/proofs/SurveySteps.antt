@@ -1,0 +1,114 @@
+-- One step of a run, for a worker that has a snapshot or reach open.
+use Rattle.std.proofs.Common.{◌≡◌, ℕ, suc, ◌<◌, false, Some, None, Ok, Continue, Break, sym, refl, ap, ◌∙◌, subst, ⊎_elim}
+use Rattle.std.proofs.lemmas.Bool.{cases_eq}
+use Rattle.codes.specs.declared.answer.Answer.{Answer}
+use Rattle.layout.specs.declared.sizes.Sizes.{Sizes}
+use Rattle.places.specs.declared.place.Survey.{Survey}
+use Rattle.places.specs.declared.place.Call.TheVariants as call
+use Rattle.places.specs.declared.place.Place.{Place}
+use Rattle.places.specs.Outs.{Out}
+use Rattle.stepper.specs.declared.worker.Worker.{Worker}
+use Rattle.stepper.specs.declared.request.Request.{Request}
+use Rattle.stepper.specs.declared.request.Request.TheVariants as request
+use Rattle.stepper.specs.States.{State}
+use Rattle.stepper.specs.Turns.{worker_at, answer_at, followed_at, turned}
+use Rattle.stepper.specs.Workers.{out_answer}
+use Rattle.stepper.specs.Requests.{turn_refused, unless_refused, answered_or, reply_of}
+use Rattle.laws.specs.Fits.{Fit}
+use Rattle.laws.specs.Sound.{Sound, RunsSound, RunsKeepLaws}
+use Rattle.laws.specs.Stamps.{RunsStamp}
+use Rattle.runs.specs.Runs.{Run}
+use Rattle.runs.specs.Views.{place_at}
+use Rattle.runs.specs.Seen.{open_at}
+use Rattle.runs.specs.Reasons.{BegunBy, RunsKnow}
+use Rattle.runs.proofs.Turns.{worker_after}
+use Rattle.runs.proofs.Steps.{StepCase, StepCase.keeps, StepCase.begins, StepCase.turns, sound_at, sizes_at, case_at, laws_at}
+use Rattle.runs.proofs.Opens.{runs_keeps, answer_closes}
+use Rattle.walks.specs.Memory.{memory_of}
+use Rattle.walks.specs.Pages.{page_of}
+use Rattle.walks.specs.Surveys.{TurnDone, goes_to}
+use Rattle.walks.specs.Turns.{surveyor_of, goes, InSurvey, place_then, TurnGoes}
+use Rattle.walks.proofs.Runs.{turns_go}
+use Rattle.walks.proofs.PageTurns.{turns_write}
+use Rattle.walks.proofs.RunSurveys.{in_survey, same_going, begin_rests, other_turn}
+use Rattle.bounds.specs.Bounds.{is_turn_of}
+use Rattle.bounds.proofs.Counts.{not_own}
+use Rattle.bounds.proofs.Open.{OpenCall, open_call, turn_accepted}
+
+module _ (sound : RunsSound) (keep : RunsKeepLaws) (stamps : RunsStamp) (know : RunsKnow) (R : Run) (w b : ℕ) (v : Survey) (l : w < R.sizes.workers)
+    (since : ℕ) (begun : BegunBy R since w b (call.Survey v)) (k : ℕ) (o : open_at R k w ≡ Some b) where
+  abbrev s : State
+  s = R.state k
+
+  opened : OpenCall sound keep stamps know R k w b (call.Survey v)
+  opened = open_call sound keep stamps know R k since w b (call.Survey v) l o begun
+
+  pub began_before : b < k
+  began_before = opened.before
+
+  pub at : InSurvey (place_at R k w)
+  at = in_survey (place_at R k w) v opened.place
+
+  there : w < s.sizes.workers
+  there = subst (λ (z : Sizes). w < z.workers) (sym (sizes_at sound keep stamps R k)) l
+
+  good : Sound s
+  good = sound_at sound keep stamps R k
+
+  pub fit : Fit s w
+  fit = record { worker = there; cells = good.cells; counted = good.counted; place = good.places w there }
+
+  -- a turn of the worker, which is not refused; or a step that leaves its place, book and page
+  pub data Step : Type 0 where
+    own : R.request k ≡ request.Turn w → turn_refused s w ≡ None → R.state (suc k) ≡ turned s w → Step
+    rests : is_turn_of w (R.request k) ≡ false → surveyor_of (R.state (suc k)) w ≡ surveyor_of s w → Step
+
+  pub step : Step
+  step = by_case (case_at sound keep stamps R k)
+    where
+      not_turn : (q : Request) → R.request k ≡ q → ((u : ℕ) → q ≡ request.Turn u → ¬ (u ≡ w)) → is_turn_of w (R.request k) ≡ false
+      not_turn (request.Begin a) e h = ap (is_turn_of w) e
+      not_turn (request.Turn u) e h = ap (is_turn_of w) e ∙ not_own u w (h u refl)
+
+      by_case : StepCase s (R.request k) (R.state (suc k)) → Step
+      by_case (keeps y f e) = rests
+          (not_turn (R.request k) refl (λ u q n. turn_accepted sound keep stamps know R k w b (call.Survey v) l opened y (ap (reply_of s) (sym (q ∙ ap request.Turn n)) ∙ f)))
+          (ap (λ t. surveyor_of t w) e)
+      by_case (begins a d q t f e) = rests (ap (is_turn_of w) q) (ap (λ t. surveyor_of t w) e ∙ begin_rests s w there good at a (Ok d) t)
+      by_case (turns u q n f e) = ⊎_elim
+          (λ (m : u ≡ w). own (q ∙ ap request.Turn m) (subst (λ x. turn_refused s x ≡ None) m n) (subst (λ x. R.state (suc k) ≡ turned s x) m e))
+          (λ (m : ¬ (u ≡ w)). rests (ap (is_turn_of w) q ∙ not_own u w m)
+          (ap (λ t. surveyor_of t w) e ∙ other_turn s w there good at u (λ x. m (sym x)) (laws_at sound keep stamps R k u q n e)))
+          (cases_eq u w)
+
+  pub done : TurnDone s.sizes.top (memory_of s) (memory_of (turned s w)) (surveyor_of s w)
+  done = (turns_go s w fit at).1
+
+  -- a turn of the worker
+  module _ (q : R.request k ≡ request.Turn w) (n : turn_refused s w ≡ None) (e : R.state (suc k) ≡ turned s w) where
+    gone : TurnGoes s w (goes s w)
+    gone = (turns_go s w fit at).0
+
+    worker_next : worker_at (R.state (suc k)) w ≡ (followed_at s w).worker
+    worker_next = ap (λ t. worker_at t w) e ∙ worker_after s w good there
+
+    pub place_next : place_at (R) (suc k) w ≡ place_then (goes s w).out
+    place_next = ap (λ (u : Worker). u.place) worker_next ∙ gone.place
+
+    pub book_next : (worker_at (R.state (suc k)) w).book ≡ (goes s w).book
+    book_next = ap (λ (u : Worker). u.book) worker_next ∙ gone.book
+
+    pub page_next : page_of (R.state (suc k)) w ≡ (goes s w).page
+    page_next = ap (λ t. page_of t w) e ∙ turns_write s w fit at ∙ gone.page
+
+    pub reply_is : (x : Out) → (goes s w).out ≡ x → reply_of s (request.Turn w) ≡ answered_or (Ok (out_answer x))
+    reply_is x f = ap (λ r. answered_or (unless_refused r (answer_at s w))) n ∙ ap (λ y. answered_or (Ok y)) (gone.answer ∙ ap out_answer f)
+
+    pub goes_on : (p : Place) → (goes s w).out ≡ Continue p → (goes s w ≡ goes_to (surveyor_of (R.state (suc k)) w)) × (open_at R (suc k) w ≡ Some b)
+    goes_on p f = (
+      same_going (f ∙ ap (λ x. Continue x) (sym (place_next ∙ ap place_then f))) (sym book_next) (sym page_next),
+      runs_keeps R k w q w (reply_is (Continue p) f) ∙ o,
+    )
+
+    pub closes : (a : Answer) → (goes s w).out ≡ Break a → open_at R (suc k) w ≡ None
+    closes a f = answer_closes R k w q a (reply_is (Break a) f)

@@ -1,0 +1,5 @@
+use Rattle.promise.proofs.Rests.{rests_keep}
+use Rattle.promise.proofs.rests_keep.Goals as goal
+
+pub returns : goal.returns
+returns c = rests_keep

@@ -1,0 +1,16 @@
+pub mod Sights
+pub mod Histories
+pub mod Calls
+pub mod Left
+pub mod Bounds
+pub mod Promise
+pub mod Sessions
+pub mod Expected
+pub mod Worked
+pub mod Bridges
+pub mod Deeds
+pub mod Counts
+pub mod Answers
+pub mod Keyed
+pub mod Named
+pub mod Points
