@@ -5,10 +5,10 @@ use Rattle.std.specs.declared.ops.ControlFlow.TheVariants.{Continue, Break}
 use Rattle.codes.specs.declared.answer.Answer.{Answer}
 use Rattle.places.specs.declared.place.Place.{Place}
 
-abbrev pub Out : Type 0
-Out = ControlFlow Answer Place
+abbrev pub Flow : Type 0
+Flow = ControlFlow Answer Place
 
 -- the place that it moved to, or its answer
-abbrev pub out_of : Place → Option Answer → Out
-out_of p None = Continue p
-out_of p (Some a) = Break a
+abbrev pub flow_of : Place → Option Answer → Flow
+flow_of p None = Continue p
+flow_of p (Some a) = Break a
