@@ -1,3 +1,2 @@
 mod Feeding
-mod Putting
 mod Replaying
