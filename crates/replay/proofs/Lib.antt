@@ -1,2 +1,3 @@
 mod Feeding
+mod Opened
 mod Replaying

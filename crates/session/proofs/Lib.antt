@@ -1,7 +1,7 @@
 pub mod Answering
 mod CodesOf
 pub mod GivingBack
-mod Opening
+pub mod Opening
 mod Passing
 mod Servicing
 pub mod Serving

@@ -1,4 +1,4 @@
-use Rattle.std.proofs.Common.{◌≡◌, sym, ap, ◌∙◌}
+use Rattle.std.proofs.Common.{sym, ap, ◌∙◌}
 use Rattle.layout.specs.Limits.{numbers_of}
 use Rattle.stepper.specs.Runs.{state_of, opened_or}
 use Rattle.session.proofs.Opening.{opens_run, not_both}
