@@ -5,7 +5,7 @@ mod proved;
 use std::{hint::black_box, io, path::Path, time::Instant};
 
 use bench::frames::Program;
-use bench::schedules::{cases, Mix, Schedule};
+use bench::schedules::{cases, Mix, Schedule, FOLDERS};
 
 /// How often each schedule is timed; the best counts.
 const ROUNDS: usize = 15;
@@ -57,15 +57,16 @@ struct Bench<'a> {
 
 impl Bench<'_> {
     fn new(schedule: &Schedule) -> Bench<'_> {
-        // No reply line is longer than 7 bytes, and a line may be empty.
-        let most = 7 * (schedule.text.len() + 1);
-        Bench {
+        let mut bench = Bench {
             schedule,
-            plain: Vec::with_capacity(most),
+            plain: Vec::new(),
             words: vec![0; schedule.cells],
             image: vec![0; 4 * schedule.cells],
-            out: vec![0; most],
-        }
+            out: Vec::new(),
+        };
+        let most = bench.plain().len();
+        bench.out = vec![0; most];
+        bench
     }
 
     fn plain(&mut self) -> &[u8] {
@@ -138,12 +139,14 @@ fn measure(schedule: &Schedule) -> [f64; 2] {
 }
 
 fn main() -> io::Result<()> {
-    let folder = Path::new(env!("CARGO_MANIFEST_DIR")).join("tests/cases");
-    let cases = cases(&folder)?;
-    for case in &cases {
-        Bench::new(case).checked();
+    let mut count = 0;
+    for folder in FOLDERS {
+        for case in cases(&Path::new(env!("CARGO_MANIFEST_DIR")).join(folder))? {
+            Bench::new(&case).checked();
+            count += 1;
+        }
     }
-    println!("{} cases: all replies are equal byte for byte", cases.len());
+    println!("{count} cases: all replies are equal byte for byte");
     println!("Millions of turns a second, the best of {ROUNDS} runs. A ratio is the speed of the proved stepper");
     println!("with that of plain Rust as 1: above 1 it is faster.");
     println!(

@@ -101,20 +101,19 @@ impl Mix {
     }
 }
 
-/// The cases in a folder, by name. Those that take a page are left out.
+/// The folders of cases, from the folder of the benchmark: schedules with their replies beside them.
+pub const FOLDERS: [&str; 3] = ["tests/cases", "../schedules", "../schedules/annotated"];
+
+/// The cases in a folder, by name.
 pub fn cases(folder: &Path) -> io::Result<Vec<Schedule>> {
     let mut all = Vec::new();
     for entry in fs::read_dir(folder)? {
         let path = entry?.path();
-        if path.extension().is_none_or(|extension| extension != "hex") {
-            continue;
-        }
-        let text = fs::read(&path)?;
-        if !text.split(|&byte| byte == b'\n').any(|line| line.starts_with(b"04")) {
+        if path.extension().is_some_and(|extension| extension == "hex") {
             all.push(Schedule {
-                name: path.file_stem().unwrap_or_default().to_string_lossy().into(),
+                name: path.with_extension("").to_string_lossy().into(),
                 cells: CELLS,
-                text,
+                text: fs::read(&path)?,
             });
         }
     }

@@ -38,6 +38,7 @@ fn print_unanswered(rt: &HostRuntime, why: Unanswered) -> io::Result<()> {
     println!(rt; "No answer: {why} (code {:02X}).", u8::from(why))
 }
 
+/// Prints the answers to the questions from `start`, or why there are none.
 pub fn print_answers(rt: &HostRuntime, page: &Page, start: usize) -> anyhow::Result<()> {
     let answers = match answers_from(page, start) {
         Ok(answers) => answers,

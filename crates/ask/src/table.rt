@@ -1,10 +1,15 @@
 // A page as a table: a row for each key that it shows, with the weights of its edges.
+ghost use Rattle.std.specs.Prelude.{◌≡◌, IfOk, string_bytes};
+ghost use Rattle.ask.specs.Texts.{text_of};
+
 use questions::GraphView;
 use std::alloc::{AllocError, Global};
 use std::io;
 
-// A number, or a point where there is none; a string, since its length gives the width.
-pub fn text(heap: Global, value: Option<u32>) -> Result<String, AllocError> {
+/// A number, or a point where there is none; a string, since its length gives the width.
+pub fn text(heap: Global, value: Option<u32>) -> Result<String, AllocError>
+    ensures { IfOk result (λ text. string_bytes text ≡ text_of value) }
+{
     match value {
         Some(v) => format!(in heap; "{v}"),
         None => String::from_str(heap, "."),
@@ -30,6 +35,7 @@ fn print_row<G: GraphView>(rt: &HostRuntime, page: &G, i: usize, width: usize) -
     println!(rt; "")
 }
 
+/// Prints a page as a table.
 pub fn print_page<G: GraphView>(rt: &HostRuntime, page: &G) -> io::Result<()> {
     let width = width(rt.alloc(), page)?;
     let n = page.len();

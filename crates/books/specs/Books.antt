@@ -1,5 +1,5 @@
 -- The book of a snapshot or reach.
-use Rattle.std.specs.Prelude.{ℕ, ◌+◌, Bool, cond, Some, None, Option, is_some, replicate, nat_lt, slice_index_or, slice_set}
+use Rattle.std.specs.Prelude.{ℕ, ◌+◌, Bool, if◌then◌else◌, Some, None, Option, is_some, replicate, nat_lt, slice_index_or, slice_set}
 use Rattle.std.specs.Option.{unwrap_or}
 use Rattle.layout.specs.Rows.{no_row}
 use Rattle.books.specs.declared.book.KeyState.{KeyState}
@@ -39,6 +39,5 @@ with_row b k r = with_key b k (shown_of b k) (Some r)
 -- key k joins: the page shows its row, and it is to be served
 abbrev pub joined : Book → ℕ → Book
 joined b k =
-    cond (nat_lt b.len 64)
-    (record { t = b.t; keys = (with_key b k (row_of b k) (found_of b k)).keys; queue = slice_set b.queue b.len k; len = b.len + 1 })
-    b
+    if nat_lt b.len 64 then (record { t = b.t; keys = (with_key b k (row_of b k) (found_of b k)).keys; queue = slice_set b.queue b.len k; len = b.len + 1 })
+    else b

@@ -1,14 +1,14 @@
 -- Which pairs are walked, in which order.
-use Rattle.std.specs.Prelude.{ℕ, zero, suc, ◌+◌, ◌-◌, ◌*◌, ◌/◌, ◌%◌, Bool, cond, not, ◌&&◌, Some, None, Option, ◌==◌, slice_index}
+use Rattle.std.specs.Prelude.{ℕ, zero, suc, ◌+◌, ◌-◌, ◌*◌, ◌/◌, ◌%◌, Bool, if◌then◌else◌, not, ◌&&◌, Some, None, Option, ◌==◌, slice_index}
 use Rattle.codes.specs.declared.answer.Answer.{Answer}
 use Rattle.codes.specs.declared.answer.Answer.TheVariants.{SnapshotTaken, ReachTaken}
 use Rattle.std.specs.declared.ops.ControlFlow.{ControlFlow}
 use Rattle.std.specs.declared.ops.ControlFlow.TheVariants.{Continue, Break}
 use Rattle.layout.specs.Rows.{no_row}
-use Rattle.places.specs.Outs.{Out}
+use Rattle.places.specs.Flows.{Flow}
 use Rattle.places.specs.declared.place.Survey.{Survey}
 use Rattle.places.specs.declared.place.Survey.TheVariants.{Snapshot, Reach}
-use Rattle.places.specs.declared.place.Leg.{Leg}
+use Rattle.places.specs.declared.place.ServedPair.{ServedPair}
 use Rattle.places.specs.declared.place.Job.{Job}
 use Rattle.places.specs.declared.place.Job.TheVariants as job
 use Rattle.places.specs.declared.place.Place.TheVariants.{WalkHead}
@@ -35,33 +35,31 @@ pair_to n x = x % n
 abbrev pub open_at : Book → Survey → ℕ → ℕ → Bool
 open_at b v n x = open_pair b v (pair_from b n x) (pair_to n x)
 
-abbrev pub leg_at : Book → ℕ → ℕ → Leg
-leg_at b n x = record { place = x / n; from = pair_from b n x; to = pair_to n x }
+abbrev pub pair_numbered : Book → ℕ → ℕ → ServedPair
+pair_numbered b n x = record { position = x / n; from = pair_from b n x; to = pair_to n x }
 
 -- the number of a pair
-abbrev pub leg_number : ℕ → Leg → ℕ
-leg_number n l = l.place * n + l.to
+abbrev pub pair_number : ℕ → ServedPair → ℕ
+pair_number n l = l.position * n + l.to
 
 -- the first pair to walk among the d pairs from number x on
 abbrev pub first_open : Book → Survey → ℕ → ℕ → ℕ → Option Job
 first_open b v n zero x = None
 first_open b v n (suc d) x =
-    cond (open_at b v n x)
-    (Some (job.Pair (leg_at b n x)))
-    (first_open b v n d (x + 1))
+    if open_at b v n x then Some (job.Pair (pair_numbered b n x)) else first_open b v n d (x + 1)
 
 abbrev pub open_from : Book → Survey → ℕ → ℕ → Option Job
 open_from b v n x = first_open b v n (n * b.len - x) x
 
 -- on to the first turn of a walk, or the answer
-abbrev pub walk_or : Survey → ControlFlow Answer Job → Out
+abbrev pub walk_or : Survey → ControlFlow Answer Job → Flow
 walk_or v (Continue j) = Continue (WalkHead (record { survey = v; job = j }))
 walk_or v (Break a) = Break a
 
 -- the keys are served in the order in which they joined, each with the others rising; after the last the page is finished
-abbrev pub go_on : Survey → Option Job → Out
+abbrev pub go_on : Survey → Option Job → Flow
 go_on v None = Break (survey_done v)
 go_on v (Some j) = walk_or v (Continue j)
 
-abbrev pub serve_from : Book → Survey → ℕ → ℕ → Out
+abbrev pub serve_from : Book → Survey → ℕ → ℕ → Flow
 serve_from b v n x = go_on v (open_from b v n x)

@@ -4,14 +4,16 @@ ghost use Rattle.books.specs.Books.{blank, shown_of, found_of, row_of, is_seen, 
 
 use layout::rows::NO_ROW;
 
-// What a book holds of a key: the row that the page shows of it, and the row that its walk found, or None before its walk. A key that has had its walk and did not join is not shown.
+/// What a book holds of a key: the row that the page shows of it, and the row that its walk found, or None before its walk. A key
+/// that has had its walk and did not join is not shown: its `shown` is 0.
 #[derive(Clone, Copy, PartialEq, Eq, Debug)]
 pub struct KeyState {
     pub shown: u32,
     pub found: Option<u32>,
 }
 
-// `queue` with `len` has a fixed size: a record lies in an array of Copy records, with no heap.
+/// What a worker keeps beside its page while it makes one: the number `t` of its raise, what it holds of each key, and the keys to
+/// serve in the order in which they joined, the first `len` of `queue`. All have a fixed size, so no heap: a run has 64 keys at most.
 #[derive(Clone, Copy, PartialEq, Eq, Debug)]
 pub struct Book {
     pub t: u32,
@@ -21,6 +23,7 @@ pub struct Book {
 }
 
 impl Book {
+    /// The book of a raise that gave t: no key has had its walk, and none joined.
     pub fn blank(t: u32) -> Book
         ensures { result ≡ blank t }
     {
@@ -35,7 +38,7 @@ impl Book {
         }
     }
 
-    // What the page shows of a key.
+    /// The row that the page shows of a key; 0 if it shows none, and for a key of 64 or more.
     pub fn key(&self, k: u8) -> u32
         ensures { result ≡ shown_of self.now k }
     {
@@ -49,28 +52,28 @@ impl Book {
         self.keys.get(k as usize).and_then(|key| key.found)
     }
 
-    // The visible row that the walk of a key found.
+    /// The visible row that the walk of a key found; 0 if it found none, or has not been.
     pub fn row(&self, k: u8) -> u32
         ensures { result ≡ row_of self.now k }
     {
         self.found(k).unwrap_or(NO_ROW)
     }
 
-    // Whether a key has had its walk.
+    /// Whether a key has had its walk.
     pub fn is_seen(&self, k: u8) -> bool
         ensures { result ≡ is_seen self.now k }
     {
         self.found(k).is_some()
     }
 
-    // The key that is served n-th, of the first `len`; 0 past the end.
+    /// The key that is served n-th, counted from 0, of the first `len`; 0 from 64 on.
     pub fn queued(&self, n: usize) -> u8
         ensures { result ≡ slice_index self.now.queue n }
     {
         self.queue.get(n).copied().unwrap_or(0)
     }
 
-    // A key has had its walk.
+    /// A key has had its walk, which found `row`, or 0 for nothing visible. A key of 64 or more changes nothing.
     pub fn walk(&mut self, k: u8, row: u32)
         ensures { self.new ≡ with_row self.old k row }
     {
@@ -80,7 +83,7 @@ impl Book {
         }
     }
 
-    // A walked key joins: the page shows its row, and it is to be served.
+    /// A walked key joins: the page shows its row, and it is to be served. Where 64 have joined nothing changes.
     pub fn join(&mut self, k: u8)
         ensures { self.new ≡ joined self.old k }
     {

@@ -1,12 +1,12 @@
 // The next pair to walk.
 ghost use Rattle.std.specs.Prelude.{◌≡◌, ◌+◌, ◌*◌, ◌/◌, ◌%◌};
-ghost use Rattle.books.specs.Serving.{leg_number, open_pair, open_from, serve_from, survey_done, walk_or};
+ghost use Rattle.books.specs.Serving.{pair_number, open_pair, open_from, serve_from, survey_done, walk_or};
 
 use crate::book::Book;
 use codes::Answer;
 use layout::rows::NO_ROW;
 use layout::sizes::Sizes;
-use places::place::{Job, Leg, Survey};
+use places::place::{Job, ServedPair, Survey};
 use std::ops::ControlFlow;
 
 // The answer of a finished page.
@@ -19,16 +19,16 @@ fn survey_done(survey: Survey) -> Answer
     }
 }
 
-// The place and the key of a pair that may be named with a key past the last one.
-fn placed(sizes: Sizes, place: u8, to: u16) -> (usize, usize)
-    ensures { result ≡ (place + to / sizes.keys, to % sizes.keys) }
+// The position and the key of a pair that may be named with a key past the last one.
+fn positioned(sizes: Sizes, position: u8, to: u16) -> (usize, usize)
+    ensures { result ≡ (position + to / sizes.keys, to % sizes.keys) }
 {
-    let place = place as usize;
+    let position = position as usize;
     let to = to as usize;
     if to < sizes.keys {
-        (place, to)
+        (position, to)
     } else {
-        (place + to / sizes.keys, to % sizes.keys)
+        (position + to / sizes.keys, to % sizes.keys)
     }
 }
 
@@ -44,18 +44,18 @@ impl Book {
         }
     }
 
-    // The first pair to walk, from the one of the key at a place and key `to` on.
-    fn seek(&self, survey: Survey, sizes: Sizes, place: u8, to: u16) -> Option<Job>
-        ensures { result ≡ open_from self.now survey sizes.keys (place * sizes.keys + to) }
+    // The first pair to walk, from the one of the key at a position and key `to` on.
+    fn seek(&self, survey: Survey, sizes: Sizes, position: u8, to: u16) -> Option<Job>
+        ensures { result ≡ open_from self.now survey sizes.keys (position * sizes.keys + to) }
     {
-        let start = place as usize * sizes.keys + to as usize;
-        // The place and the key of pair number x go along with it: to divide at each pair would take longer.
-        let (mut served, mut key) = placed(sizes, place, to);
+        let start = position as usize * sizes.keys + to as usize;
+        // The position and the key of pair number x go along with it: to divide at each pair would take longer.
+        let (mut served, mut key) = positioned(sizes, position, to);
         for x in start..sizes.keys * self.len as usize {
             let from = self.queued(served);
             if self.is_open(survey, from, key as u8) {
-                return Some(Job::Pair(Leg {
-                    place: served as u8,
+                return Some(Job::Pair(ServedPair {
+                    position: served as u8,
                     from,
                     to: key as u8,
                 }));
@@ -69,17 +69,17 @@ impl Book {
         None
     }
 
-    // On to the next pair to walk, from the one of the key at a place and key `to` on, or the answer.
+    // On to the next pair to walk, from the one of the key at a position and key `to` on, or the answer.
     pub(crate) fn serve(
         &self,
         survey: Survey,
         sizes: Sizes,
-        place: u8,
+        position: u8,
         to: u16,
     ) -> ControlFlow<Answer, Job>
-        ensures { walk_or survey result ≡ serve_from self.now survey sizes.keys (place * sizes.keys + to) }
+        ensures { walk_or survey result ≡ serve_from self.now survey sizes.keys (position * sizes.keys + to) }
     {
-        match self.seek(survey, sizes, place, to) {
+        match self.seek(survey, sizes, position, to) {
             Some(job) => ControlFlow::Continue(job),
             None => ControlFlow::Break(survey_done(survey)),
         }
@@ -90,10 +90,10 @@ impl Book {
         &self,
         survey: Survey,
         sizes: Sizes,
-        leg: Leg,
+        pair: ServedPair,
     ) -> ControlFlow<Answer, Job>
-        ensures { walk_or survey result ≡ serve_from self.now survey sizes.keys (leg_number sizes.keys leg + 1) }
+        ensures { walk_or survey result ≡ serve_from self.now survey sizes.keys (pair_number sizes.keys pair + 1) }
     {
-        self.serve(survey, sizes, leg.place, leg.to as u16 + 1)
+        self.serve(survey, sizes, pair.position, pair.to as u16 + 1)
     }
 }

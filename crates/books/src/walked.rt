@@ -6,20 +6,36 @@ use crate::book::Book;
 use codes::Answer;
 use layout::rows::NO_ROW;
 use layout::sizes::Sizes;
-use places::place::{Hand, Job, Leg, Survey, Walk};
+use places::place::{Hand, Job, ServedPair, Survey, Walk};
 use std::ops::ControlFlow;
 
-// What is written into the page: nothing; zeros; a key's row; a pair's weight; a pair's weight, and the row of its target, which joins.
+/// What is written into the page.
 #[derive(Clone, Copy, PartialEq, Eq, Debug)]
 pub enum Entry {
     Nothing,
+    /// 0 into every cell.
     Clear,
-    Key(u8, u32),
-    Pair(u8, u8, u32),
-    Join(u8, u8, u32, u32),
+    /// The row of a key.
+    Key {
+        key: u8,
+        row: u32,
+    },
+    /// The weight of a pair.
+    Pair {
+        from: u8,
+        to: u8,
+        weight: u32,
+    },
+    /// The weight of a pair, and the row of its target, which joins.
+    Join {
+        from: u8,
+        to: u8,
+        weight: u32,
+        row: u32,
+    },
 }
 
-// On to the next walk or the answer, and what is written into the page.
+/// What a walk at its end leads to: the next walk or the answer, and what is written into the page.
 #[derive(Clone, Copy, PartialEq, Eq, Debug)]
 pub struct Served {
     pub flow: ControlFlow<Answer, Job>,
@@ -33,7 +49,7 @@ impl Book {
     {
         self.walk(key, row);
         self.join(key);
-        let entry = Entry::Key(key, row);
+        let entry = Entry::Key { key, row };
         if key as usize + 1 < sizes.keys {
             return Served {
                 flow: ControlFlow::Continue(Job::Key(key + 1)),
@@ -60,25 +76,34 @@ impl Book {
         self.join(key);
         Served {
             flow: self.serve(survey, sizes, 0, 0),
-            entry: Entry::Key(key, row),
+            entry: Entry::Key { key, row },
         }
     }
 
     // The target of a visible edge row has had its walk: the edge is there if its target row is the visible one.
-    fn resolve(&mut self, survey: Survey, sizes: Sizes, leg: Leg, hand: Hand) -> Served
-        ensures { outcome survey self.new result ≡ resolved self.old survey sizes.keys leg hand }
+    fn resolve(&mut self, survey: Survey, sizes: Sizes, pair: ServedPair, hand: Hand) -> Served
+        ensures { outcome survey self.new result ≡ resolved self.old survey sizes.keys pair hand }
     {
-        let row = self.row(leg.to);
+        let row = self.row(pair.to);
         let entry = match survey {
             _ if hand.target != row => Entry::Nothing,
-            Survey::Reach(_) if self.key(leg.to) == NO_ROW => {
-                self.join(leg.to);
-                Entry::Join(leg.from, leg.to, hand.weight, row)
+            Survey::Reach(_) if self.key(pair.to) == NO_ROW => {
+                self.join(pair.to);
+                Entry::Join {
+                    from: pair.from,
+                    to: pair.to,
+                    weight: hand.weight,
+                    row,
+                }
             }
-            _ => Entry::Pair(leg.from, leg.to, hand.weight),
+            _ => Entry::Pair {
+                from: pair.from,
+                to: pair.to,
+                weight: hand.weight,
+            },
         };
         Served {
-            flow: self.serve_after(survey, sizes, leg),
+            flow: self.serve_after(survey, sizes, pair),
             entry,
         }
     }
@@ -88,38 +113,39 @@ impl Book {
         &mut self,
         survey: Survey,
         sizes: Sizes,
-        leg: Leg,
+        pair: ServedPair,
         row: u32,
         hand: Hand,
     ) -> Served
-        ensures { outcome survey self.new result ≡ pair_walked self.old survey sizes.keys leg row hand }
+        ensures { outcome survey self.new result ≡ pair_walked self.old survey sizes.keys pair row hand }
     {
-        if row == NO_ROW || hand.source != self.key(leg.from) {
+        if row == NO_ROW || hand.source != self.key(pair.from) {
             return Served {
-                flow: self.serve_after(survey, sizes, leg),
+                flow: self.serve_after(survey, sizes, pair),
                 entry: Entry::Nothing,
             };
         }
-        if self.is_seen(leg.to) {
-            return self.resolve(survey, sizes, leg, hand);
+        if self.is_seen(pair.to) {
+            return self.resolve(survey, sizes, pair, hand);
         }
         Served {
-            flow: ControlFlow::Continue(Job::Target(leg, row)),
+            flow: ControlFlow::Continue(Job::Target(pair, row)),
             entry: Entry::Nothing,
         }
     }
 
-    // `row` is the visible row. One arm for each clause of `walked_at`, so a match.
+    /// What follows when a walk has come to its end, in a run of these sizes. `row` is the row that it found visible, or 0, and `hand`
+    /// holds what never changes of the edge row that the walk is about. One arm for each clause of `walked_at`, so a match.
     pub fn walked(&mut self, walk: Walk, sizes: Sizes, row: u32, hand: Hand) -> Served
         ensures { outcome walk.survey self.new result ≡ walked_of self.old walk sizes.keys row hand }
     {
         match walk.job {
             Job::Key(key) => self.key_walked(walk.survey, sizes, key, row),
             Job::Start(key) => self.start_walked(walk.survey, sizes, key, row),
-            Job::Pair(leg) => self.pair_walked(walk.survey, sizes, leg, row, hand),
-            Job::Target(leg, _) => {
-                self.walk(leg.to, row);
-                self.resolve(walk.survey, sizes, leg, hand)
+            Job::Pair(pair) => self.pair_walked(walk.survey, sizes, pair, row, hand),
+            Job::Target(pair, _) => {
+                self.walk(pair.to, row);
+                self.resolve(walk.survey, sizes, pair, hand)
             }
         }
     }

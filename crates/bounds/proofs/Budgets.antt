@@ -23,11 +23,11 @@ use Rattle.places.specs.declared.place.Purpose.TheVariants as purpose
 use Rattle.places.specs.declared.place.Place.{Place}
 use Rattle.places.specs.declared.place.Place.TheVariants as place
 use Rattle.places.specs.Moved.{Next, Next as next}
-use Rattle.places.specs.Outs.{Out}
+use Rattle.places.specs.Flows.{Flow}
 use Rattle.places.specs.Rules.{first, absent, alive, look_found, lost_link, end_done}
 use Rattle.places.specs.Nexts.{settle_on, settled, settling, number_of, next_of}
-use Rattle.stepper.specs.declared.worker.Worker.{Worker}
-use Rattle.stepper.specs.Workers.{followed}
+use Rattle.machine.specs.declared.worker.Worker.{Worker}
+use Rattle.machine.specs.Workers.{followed}
 use Rattle.bounds.specs.Most.{most_turns}
 use Rattle.runs.specs.Purposes.{look_call, purpose_call, InCall}
 
@@ -49,14 +49,14 @@ settle_turns (purpose.Own Ins (change.Edge b) r) = 25
 settle_turns (purpose.Own Del (change.Edge b) r) = 20
 settle_turns (purpose.LostDel (change.Vertex i) r) = 7
 settle_turns (purpose.LostDel (change.Edge b) r) = 20
-settle_turns (purpose.WonIns i r) = 11
-settle_turns (purpose.BindAgain o b) = 12
-settle_turns (purpose.Again Source Remove b (Err h)) = 24
-settle_turns (purpose.Again Target Remove b (Err h)) = 25
-settle_turns (purpose.Again Source Remove b (Ok e)) = 17
-settle_turns (purpose.Again Target Remove b (Ok e)) = 18
-settle_turns (purpose.Again Source o b f) = 22
-settle_turns (purpose.Again Target o b f) = 23
+settle_turns (purpose.WinnerIns i r) = 11
+settle_turns (purpose.SourceAgain o b) = 12
+settle_turns (purpose.CheckAgain Source Remove b (Err h)) = 24
+settle_turns (purpose.CheckAgain Target Remove b (Err h)) = 25
+settle_turns (purpose.CheckAgain Source Remove b (Ok e)) = 17
+settle_turns (purpose.CheckAgain Target Remove b (Ok e)) = 18
+settle_turns (purpose.CheckAgain Source o b f) = 22
+settle_turns (purpose.CheckAgain Target o b f) = 23
 settle_turns (purpose.Compare Source b Ins e x) = 29
 settle_turns (purpose.Compare Target b Ins e x) = 33
 settle_turns (purpose.Compare Source b Del e x) = 24
@@ -67,7 +67,7 @@ abbrev pub stage_turns : Stage → ℕ
 stage_turns stage.First = 0
 stage_turns stage.Clock = 1
 stage_turns (stage.Swap n) = 2
-stage_turns stage.Again = 3
+stage_turns stage.Reread = 3
 
 abbrev pub place_turns : Place → ℕ
 place_turns (place.Head l) = look_turns l
@@ -86,7 +86,7 @@ look_hand x l r = x
 
 abbrev pub purpose_hand : ℕ → Purpose → ℕ
 purpose_hand x (purpose.Look f l r) = look_hand x l r
-purpose_hand x (purpose.Again s Add b (Err h)) = h
+purpose_hand x (purpose.CheckAgain s Add b (Err h)) = h
 purpose_hand x p = x
 
 abbrev pub hand : ℕ → Place → ℕ
@@ -143,18 +143,18 @@ purpose_within (purpose.Own Ins (change.Edge b) r) n = omega arith
 purpose_within (purpose.Own Del (change.Edge b) r) n = omega arith
 purpose_within (purpose.LostDel (change.Vertex i) r) n = omega arith
 purpose_within (purpose.LostDel (change.Edge b) r) n = omega arith
-purpose_within (purpose.WonIns i r) n = omega arith
-purpose_within (purpose.BindAgain Add b) n = omega arith
-purpose_within (purpose.BindAgain Remove b) n = omega arith
-purpose_within (purpose.BindAgain Contains b) n = omega arith
-purpose_within (purpose.Again Source Add b f) n = omega arith
-purpose_within (purpose.Again Source Remove b (Ok e)) n = omega arith
-purpose_within (purpose.Again Source Remove b (Err h)) n = omega arith
-purpose_within (purpose.Again Source Contains b f) n = omega arith
-purpose_within (purpose.Again Target Add b f) n = omega arith
-purpose_within (purpose.Again Target Remove b (Ok e)) n = omega arith
-purpose_within (purpose.Again Target Remove b (Err h)) n = omega arith
-purpose_within (purpose.Again Target Contains b f) n = omega arith
+purpose_within (purpose.WinnerIns i r) n = omega arith
+purpose_within (purpose.SourceAgain Add b) n = omega arith
+purpose_within (purpose.SourceAgain Remove b) n = omega arith
+purpose_within (purpose.SourceAgain Contains b) n = omega arith
+purpose_within (purpose.CheckAgain Source Add b f) n = omega arith
+purpose_within (purpose.CheckAgain Source Remove b (Ok e)) n = omega arith
+purpose_within (purpose.CheckAgain Source Remove b (Err h)) n = omega arith
+purpose_within (purpose.CheckAgain Source Contains b f) n = omega arith
+purpose_within (purpose.CheckAgain Target Add b f) n = omega arith
+purpose_within (purpose.CheckAgain Target Remove b (Ok e)) n = omega arith
+purpose_within (purpose.CheckAgain Target Remove b (Err h)) n = omega arith
+purpose_within (purpose.CheckAgain Target Contains b f) n = omega arith
 purpose_within (purpose.Compare Source b Ins e x) n = omega arith
 purpose_within (purpose.Compare Source b Del e x) n = omega arith
 purpose_within (purpose.Compare Target b Ins e x) n = omega arith
@@ -165,7 +165,7 @@ stage_upto : (st : Stage) → stage_turns st ≤ 3
 stage_upto stage.First = omega arith
 stage_upto stage.Clock = omega arith
 stage_upto (stage.Swap n) = omega arith
-stage_upto stage.Again = omega arith
+stage_upto stage.Reread = omega arith
 
 pub place_within : (p : Place) (c : Call) → InCall p c → Plain c → place_turns p + 1 ≤ most c
 place_within place.Idle c e n = absurd e
@@ -183,34 +183,34 @@ place_within (place.WalkOlder k r) c e n = absurd (subst Plain (sym e) n)
 -- What follows a turn, where u turns are spent with it, the head of the pair is x, and d turns were to be lost before it: the turns of the
 -- place that it leads to, and those to be lost there, allow for it.
 abbrev pub Reaches : ℕ → ℕ → ℕ → Next → Type 0
-Reaches u d x (next.Out (Continue p)) = u + stale x p ≤ place_turns p + d
-Reaches u d x (next.Out (Break a)) = Unit {0}
+Reaches u d x (next.Moved (Continue p)) = u + stale x p ≤ place_turns p + d
+Reaches u d x (next.Moved (Break a)) = Unit {0}
 Reaches u d x (next.Linked c r) = u ≤ place_turns (place.Settle stage.First (purpose.Own Ins c r)) + d
 Reaches u d x (next.Raised v t) = ⊥
 Reaches u d x (next.Walked k r) = ⊥
 
 sooner : (u v d x : ℕ) (y : Next) → v ≤ u → Reaches u d x y → Reaches v d x y
-sooner u v d x (next.Out (Continue p)) l h = omega (arith, l, h)
-sooner u v d x (next.Out (Break a)) l h = tt
+sooner u v d x (next.Moved (Continue p)) l h = omega (arith, l, h)
+sooner u v d x (next.Moved (Break a)) l h = tt
 sooner u v d x (next.Linked c r) l h = omega (arith, l, h)
 sooner u v d x (next.Raised w t) l h = h
 sooner u v d x (next.Walked k r) l h = h
 
-either : (u d x : ℕ) (b : Bool) (o p : Out) → (b ≡ true → Reaches u d x (next.Out o)) → (b ≡ false → Reaches u d x (next.Out p)) → Reaches u d x (next.Out (cond b o p))
-either u d x b o p f g = cond_both b o p (λ y. Reaches u d x (next.Out y)) f g
+either : (u d x : ℕ) (b : Bool) (o p : Flow) → (b ≡ true → Reaches u d x (next.Moved o)) → (b ≡ false → Reaches u d x (next.Moved p)) → Reaches u d x (next.Moved (cond b o p))
+either u d x b o p f g = cond_both b o p (λ y. Reaches u d x (next.Moved y)) f g
 
 -- after a look at an edge: it found a head that is not the edge, or the edge
-missed_reaches : (o : Op) (b : Bound) (x r : ℕ) → Reaches 22 (lost x (look_hand x (look.Edge o b) r)) x (next.Out (look_found o b (Err r)))
+missed_reaches : (o : Op) (b : Bound) (x r : ℕ) → Reaches 22 (lost x (look_hand x (look.Edge o b) r)) x (next.Moved (look_found o b (Err r)))
 missed_reaches Add b x r = omega arith
 missed_reaches Remove b x r = omega arith
 missed_reaches Contains b x r = omega arith
 
-found_reaches : (o : Op) (b : Bound) (x r : ℕ) → Reaches 19 (lost x (look_hand x (look.Edge o b) r)) x (next.Out (look_found o b (Ok r)))
+found_reaches : (o : Op) (b : Bound) (x r : ℕ) → Reaches 19 (lost x (look_hand x (look.Edge o b) r)) x (next.Moved (look_found o b (Ok r)))
 found_reaches Add b x r = omega (arith, lost_same x)
 found_reaches Remove b x r = omega arith
 found_reaches Contains b x r = omega arith
 
-absent_reaches : (l : Look) (x r : ℕ) → Reaches (look_turns l + 9) (lost x (look_hand x l r)) x (next.Out (absent l r))
+absent_reaches : (l : Look) (x r : ℕ) → Reaches (look_turns l + 9) (lost x (look_hand x l r)) x (next.Moved (absent l r))
 absent_reaches (look.Vertex Add i) x r = omega arith
 absent_reaches (look.Vertex Remove i) x r = tt
 absent_reaches (look.Vertex Contains i) x r = tt
@@ -218,7 +218,7 @@ absent_reaches (look.Source o p) x r = tt
 absent_reaches (look.Target o p s) x r = tt
 absent_reaches (look.Edge o b) x r = missed_reaches o b x r
 
-alive_reaches : (l : Look) (x r : ℕ) (h : Hand) → Reaches (look_turns l + 6) (lost x (look_hand x l r)) x (next.Out (alive l r h))
+alive_reaches : (l : Look) (x r : ℕ) (h : Hand) → Reaches (look_turns l + 6) (lost x (look_hand x l r)) x (next.Moved (alive l r h))
 alive_reaches (look.Vertex Add i) x r h = tt
 alive_reaches (look.Vertex Remove i) x r h = omega arith
 alive_reaches (look.Vertex Contains i) x r h = tt
@@ -226,8 +226,8 @@ alive_reaches (look.Source o p) x r h = omega arith
 alive_reaches (look.Target o p s) x r h = omega arith
 alive_reaches (look.Edge o b) x r h =
     let d = lost x (look_hand x (look.Edge o b) r) in
-    cond_both (eqb h.source b.source && eqb h.target b.target) (Ok r) (Err r) (λ f. Reaches 19 d x (next.Out (look_found o b f)))
-    (λ _. found_reaches o b x r) (λ _. sooner 22 19 d x (next.Out (look_found o b (Err r))) (omega arith) (missed_reaches o b x r))
+    cond_both (eqb h.source b.source && eqb h.target b.target) (Ok r) (Err r) (λ f. Reaches 19 d x (next.Moved (look_found o b f)))
+    (λ _. found_reaches o b x r) (λ _. sooner 22 19 d x (next.Moved (look_found o b (Err r))) (omega arith) (missed_reaches o b x r))
 
 -- after a field is settled in k turns, at a mark of a row that has ended unless k is 1
 module _ (h : Hand) (m : Mark) (x k : ℕ) (most_k : k ≤ 4) (ended : is_ended m ≡ false → k ≤ 1) where
@@ -236,27 +236,27 @@ module _ (h : Hand) (m : Mark) (x k : ℕ) (most_k : k ≤ 4) (ended : is_ended 
   settled_reaches (purpose.Look Del l r) n =
       let d = lost x (look_hand x l r) in
       either (look_turns l + 5 + k) d x (is_ended m) (absent l r) (alive l r h)
-      (λ _. sooner (look_turns l + 9) (look_turns l + 5 + k) d x (next.Out (absent l r)) (omega (arith, most_k)) (absent_reaches l x r))
-      (λ e. sooner (look_turns l + 6) (look_turns l + 5 + k) d x (next.Out (alive l r h)) (omega (arith, ended e)) (alive_reaches l x r h))
+      (λ _. sooner (look_turns l + 9) (look_turns l + 5 + k) d x (next.Moved (absent l r)) (omega (arith, most_k)) (absent_reaches l x r))
+      (λ e. sooner (look_turns l + 6) (look_turns l + 5 + k) d x (next.Moved (alive l r h)) (omega (arith, ended e)) (alive_reaches l x r h))
   settled_reaches (purpose.Own Ins (change.Vertex i) r) n = tt
   settled_reaches (purpose.Own Del (change.Vertex i) r) n = tt
   settled_reaches (purpose.Own Ins (change.Edge b) r) n = omega (arith, most_k)
   settled_reaches (purpose.Own Del (change.Edge b) r) n = omega (arith, most_k)
   settled_reaches (purpose.LostDel (change.Vertex i) r) n = tt
   settled_reaches (purpose.LostDel (change.Edge b) r) n = omega (arith, most_k)
-  settled_reaches (purpose.WonIns i r) n = tt
-  settled_reaches (purpose.BindAgain o b) n = either (12 + k) (lost x x) x (is_ended m) _ _ (λ _. tt) (λ e. omega (arith, ended e))
-  settled_reaches (purpose.Again Source Add b (Ok e)) n = either (22 + k) (lost x x) x (is_ended m) _ _ (λ _. tt) (λ e. omega (arith, ended e))
-  settled_reaches (purpose.Again Source Add b (Err r)) n = either (22 + k) (lost x r) x (is_ended m) _ _ (λ _. tt) (λ e. omega (arith, ended e))
-  settled_reaches (purpose.Again Source Remove b (Ok e)) n = either (17 + k) (lost x x) x (is_ended m) _ _ (λ _. tt) (λ e. omega (arith, ended e))
-  settled_reaches (purpose.Again Source Remove b (Err r)) n = either (24 + k) (lost x x) x (is_ended m) _ _ (λ _. tt) (λ e. omega (arith, ended e))
-  settled_reaches (purpose.Again Source Contains b f) n = either (22 + k) (lost x x) x (is_ended m) _ _ (λ _. tt) (λ e. omega (arith, ended e))
-  settled_reaches (purpose.Again Target Add b (Ok e)) n = either (23 + k) (lost x x) x (is_ended m) _ _ (λ _. tt) (λ _. tt)
-  settled_reaches (purpose.Again Target Add b (Err r)) n = either (23 + k) (lost x r) x (is_ended m) _ _ (λ _. tt) (λ e. omega (arith, ended e))
-  settled_reaches (purpose.Again Target Remove b (Ok e)) n = either (18 + k) (lost x x) x (is_ended m) _ _ (λ _. tt) (λ e. omega (arith, ended e))
-  settled_reaches (purpose.Again Target Remove b (Err r)) n = either (25 + k) (lost x x) x (is_ended m) _ _ (λ _. tt) (λ _. tt)
-  settled_reaches (purpose.Again Target Contains b (Ok e)) n = either (23 + k) (lost x x) x (is_ended m) _ _ (λ _. tt) (λ _. tt)
-  settled_reaches (purpose.Again Target Contains b (Err r)) n = either (23 + k) (lost x x) x (is_ended m) _ _ (λ _. tt) (λ _. tt)
+  settled_reaches (purpose.WinnerIns i r) n = tt
+  settled_reaches (purpose.SourceAgain o b) n = either (12 + k) (lost x x) x (is_ended m) _ _ (λ _. tt) (λ e. omega (arith, ended e))
+  settled_reaches (purpose.CheckAgain Source Add b (Ok e)) n = either (22 + k) (lost x x) x (is_ended m) _ _ (λ _. tt) (λ e. omega (arith, ended e))
+  settled_reaches (purpose.CheckAgain Source Add b (Err r)) n = either (22 + k) (lost x r) x (is_ended m) _ _ (λ _. tt) (λ e. omega (arith, ended e))
+  settled_reaches (purpose.CheckAgain Source Remove b (Ok e)) n = either (17 + k) (lost x x) x (is_ended m) _ _ (λ _. tt) (λ e. omega (arith, ended e))
+  settled_reaches (purpose.CheckAgain Source Remove b (Err r)) n = either (24 + k) (lost x x) x (is_ended m) _ _ (λ _. tt) (λ e. omega (arith, ended e))
+  settled_reaches (purpose.CheckAgain Source Contains b f) n = either (22 + k) (lost x x) x (is_ended m) _ _ (λ _. tt) (λ e. omega (arith, ended e))
+  settled_reaches (purpose.CheckAgain Target Add b (Ok e)) n = either (23 + k) (lost x x) x (is_ended m) _ _ (λ _. tt) (λ _. tt)
+  settled_reaches (purpose.CheckAgain Target Add b (Err r)) n = either (23 + k) (lost x r) x (is_ended m) _ _ (λ _. tt) (λ e. omega (arith, ended e))
+  settled_reaches (purpose.CheckAgain Target Remove b (Ok e)) n = either (18 + k) (lost x x) x (is_ended m) _ _ (λ _. tt) (λ e. omega (arith, ended e))
+  settled_reaches (purpose.CheckAgain Target Remove b (Err r)) n = either (25 + k) (lost x x) x (is_ended m) _ _ (λ _. tt) (λ _. tt)
+  settled_reaches (purpose.CheckAgain Target Contains b (Ok e)) n = either (23 + k) (lost x x) x (is_ended m) _ _ (λ _. tt) (λ _. tt)
+  settled_reaches (purpose.CheckAgain Target Contains b (Err r)) n = either (23 + k) (lost x x) x (is_ended m) _ _ (λ _. tt) (λ _. tt)
   settled_reaches (purpose.Compare Source b Ins e y) n = either (29 + k) (lost x x) x (is_below y m) _ _ (λ _. tt) (λ _. omega (arith, most_k))
   settled_reaches (purpose.Compare Source b Del e y) n = either (24 + k) (lost x x) x (is_below y m) _ _ (λ _. tt) (λ _. omega (arith, most_k))
   settled_reaches (purpose.Compare Target b Ins e y) n = either (33 + k) (lost x x) x (is_below y m) _ _ (λ _. tt) (λ _. tt)
@@ -265,7 +265,7 @@ module _ (h : Hand) (m : Mark) (x k : ℕ) (most_k : k ≤ 4) (ended : is_ended 
 
 -- where the field is read again, the row has ended if the field is del
 abbrev pub Ended : Stage → ℕ → Type 0
-Ended stage.Again g = is_ended (mark_of g) ≡ true
+Ended stage.Reread g = is_ended (mark_of g) ≡ true
 Ended st g = Unit {0}
 
 settling_reaches : (st : Stage) (p : Purpose) (h : Hand) (g x : ℕ) → Plain (purpose_call p) → Ended st g →
@@ -277,7 +277,7 @@ settling_reaches stage.First p h g x n e =
     (λ _. sooner (settle_turns p + 1) (0 + settle_turns p + 1) d x (settled p h (mark_of g)) (omega arith) (settled_reaches h (mark_of g) x 1 (omega arith) (λ _. omega arith) p n))
 settling_reaches stage.Clock p h g x n e = omega arith
 settling_reaches (stage.Swap m) p h g x n e = omega arith
-settling_reaches stage.Again p h g x n e =
+settling_reaches stage.Reread p h g x n e =
     let four = λ (f : is_ended (mark_of g) ≡ false). absurd (both_ways (is_ended (mark_of g)) f e) in
     sooner (settle_turns p + 4) (3 + settle_turns p + 1) (lost x (purpose_hand x p)) x (settled p h (mark_of g)) (omega arith) (settled_reaches h (mark_of g) x 4 (omega arith) four p n)
 
@@ -287,12 +287,12 @@ Reads x (look.Edge Add b) g = number_of g ≡ x
 Reads x l g = Unit {0}
 
 head_reaches : (l : Look) (g : Option ℕ) (x : ℕ) → Reads x l g →
-    Reaches (look_turns l + 1) (lost x x) x (cond (eqb (number_of g) 0) (next.Out (absent l 0)) (next.Out (first (purpose.Look Ins l (number_of g)))))
+    Reaches (look_turns l + 1) (lost x x) x (cond (eqb (number_of g) 0) (next.Moved (absent l 0)) (next.Moved (first (purpose.Look Ins l (number_of g)))))
 head_reaches l g x e =
-    cond_both (eqb (number_of g) 0) (next.Out (absent l 0)) (next.Out (first (purpose.Look Ins l (number_of g)))) (Reaches (look_turns l + 1) (lost x x) x)
+    cond_both (eqb (number_of g) 0) (next.Moved (absent l 0)) (next.Moved (first (purpose.Look Ins l (number_of g)))) (Reaches (look_turns l + 1) (lost x x) x)
     (λ v. none l e v) (λ v. some l e)
   where
-    none : (l : Look) → Reads x l g → eqb (number_of g) 0 ≡ true → Reaches (look_turns l + 1) (lost x x) x (next.Out (absent l 0))
+    none : (l : Look) → Reads x l g → eqb (number_of g) 0 ≡ true → Reaches (look_turns l + 1) (lost x x) x (next.Moved (absent l 0))
     none (look.Vertex Add i) e v = omega arith
     none (look.Vertex Remove i) e v = tt
     none (look.Vertex Contains i) e v = tt
@@ -302,7 +302,7 @@ head_reaches l g x e =
     none (look.Edge Remove b) e v = omega arith
     none (look.Edge Contains b) e v = omega arith
 
-    some : (l : Look) → Reads x l g → Reaches (look_turns l + 1) (lost x x) x (next.Out (first (purpose.Look Ins l (number_of g))))
+    some : (l : Look) → Reads x l g → Reaches (look_turns l + 1) (lost x x) x (next.Moved (first (purpose.Look Ins l (number_of g))))
     some (look.Vertex o i) e = omega arith
     some (look.Source o p) e = omega arith
     some (look.Target o p s) e = omega arith
@@ -317,7 +317,7 @@ TurnSays x (place.Settle st p) g = Ended st (number_of g)
 TurnSays x (place.Link d h) g = ⊥
 TurnSays x p g = Unit {0}
 
-end_reaches : (done : Bool) (d : Change) (r x : ℕ) → Reaches (place_turns (place.End d r) + 1) (lost x x) x (next.Out (end_done done d r))
+end_reaches : (done : Bool) (d : Change) (r x : ℕ) → Reaches (place_turns (place.End d r) + 1) (lost x x) x (next.Moved (end_done done d r))
 end_reaches true (change.Vertex i) r x = omega arith
 end_reaches true (change.Edge b) r x = omega arith
 end_reaches false (change.Vertex i) r x = omega arith
@@ -335,10 +335,10 @@ next_reaches (place.WalkHead k) h g x c e n q = absurd (subst Plain (sym e) n)
 next_reaches (place.WalkOlder k r) h g x c e n q = absurd (subst Plain (sym e) n)
 
 -- a link that is lost, at a head x that is not the one in hand, and one that is won
-pub lost_vertex : (i h x : ℕ) → Reaches 10 (lost x x) x (next.Out (lost_link (change.Vertex i)))
+pub lost_vertex : (i h x : ℕ) → Reaches 10 (lost x x) x (next.Moved (lost_link (change.Vertex i)))
 lost_vertex i h x = omega arith
 
-pub lost_edge : (b : Bound) (h x : ℕ) → ¬ (x ≡ h) → Reaches 25 (lost x h) x (next.Out (lost_link (change.Edge b)))
+pub lost_edge : (b : Bound) (h x : ℕ) → ¬ (x ≡ h) → Reaches 25 (lost x h) x (next.Moved (lost_link (change.Edge b)))
 lost_edge b h x n = omega (arith, lost_same x, lost_other x h n)
 
 pub won_reaches : (d : Change) (h x r : ℕ) → Reaches (place_turns (place.Link d h) + 1) (stale x (place.Link d h)) x (next.Linked d r)
@@ -347,18 +347,18 @@ won_reaches (change.Edge b) h x r = omega arith
 
 -- The head x is y after a turn that goes on, but for a link that is won.
 abbrev pub Watched : ℕ → ℕ → Next → Type 0
-Watched x y (next.Out (Continue p)) = y ≡ x
+Watched x y (next.Moved (Continue p)) = y ≡ x
 Watched x y n = Unit {0}
 
 pub watched_same : (x y : ℕ) (n : Next) → y ≡ x → Watched x y n
-watched_same x y (next.Out (Continue p)) e = e
+watched_same x y (next.Moved (Continue p)) e = e
 watched_same x y n e = tt
 
 -- the place of the worker after a turn that does not answer
 pub place_reached : (n : ℕ) (v : Worker) (h : Hand) (u d x y : ℕ) (a : Next) → Reaches u d x a → Watched x y a → (followed n v h a).answer ≡ None →
     u + stale y (followed n v h a).worker.place ≤ place_turns (followed n v h a).worker.place + d
-place_reached n v h u d x y (next.Out (Continue p)) r e q = rw e r
-place_reached n v h u d x y (next.Out (Break a)) r e q = absurd cc
+place_reached n v h u d x y (next.Moved (Continue p)) r e q = rw e r
+place_reached n v h u d x y (next.Moved (Break a)) r e q = absurd cc
 place_reached n v h u d x y (next.Linked c s) r e q = omega (arith, lost_same y, r)
 place_reached n v h u d x y (next.Raised s t) r e q = absurd r
 place_reached n v h u d x y (next.Walked k s) r e q = absurd r

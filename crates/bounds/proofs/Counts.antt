@@ -1,13 +1,14 @@
 -- How the counts of a call grow in one step.
-use Rattle.std.proofs.Common.{◌≡◌, ℕ, zero, suc, ◌+◌, ◌<◌, ◌≤◌, Bool, true, false, cond, not, ◌&&◌, eqb, Some, None, Option, refl, ap, ◌∙◌, arith}
-use Rattle.std.proofs.lemmas.Bool.{eq-eqb, ne_eqb, eqb-true, cond_both}
+use Rattle.std.proofs.Common.{◌≡◌, ℕ, zero, suc, ◌+◌, ◌<◌, ◌≤◌, Bool, true, false, cond, not, ◌&&◌, eqb, Some, refl, ap, ◌∙◌, arith}
+use Rattle.std.proofs.lemmas.Bool.{eq-eqb, ne_eqb, cond_both}
 use Rattle.layout.specs.declared.names.Head.{Head}
-use Rattle.stepper.specs.declared.request.Request.TheVariants as request
+use Rattle.machine.specs.declared.request.Request.TheVariants as request
 use Rattle.order.specs.Seen.{is_open}
-use Rattle.runs.specs.Runs.{Run}
+use Rattle.runs.specs.Runs.{RunInTime}
 use Rattle.runs.specs.Views.{head_at}
 use Rattle.runs.specs.Seen.{open_at}
-use Rattle.bounds.specs.Bounds.{count_before, is_turn_of, is_turn_of_other, turn_of_call, turns_taken, latest_turn, other_links, links_of_others}
+use Rattle.bounds.specs.Bounds.{count_before, is_turn_of_worker, is_turn_of_other, turn_of_call, turns_taken, latest_turn, other_links, links_of_others}
+use Rattle.order.proofs.Seen.{is_open_true}
 
 count_next : (k : ℕ) (test : ℕ → Bool) → count_before (suc k) test ≡ count_before k test + cond (test k) 1 0
 unfolding count_before
@@ -24,17 +25,13 @@ count_none (suc k) test h = let e = count_none k test (λ t l. h t (omega arith)
 pub count_more : (k : ℕ) (test : ℕ → Bool) → count_before k test ≤ count_before (suc k) test
 count_more k test = omega (arith, count_next k test)
 
-pub open_true : (o : Option ℕ) (b : ℕ) → is_open o b ≡ true → o ≡ Some b
-open_true None b e = absurd cc
-open_true (Some a) b e = ap (λ x. Some x) (eqb-true a b e)
-
 pub both_true : (a b : Bool) → a && b ≡ true → (a ≡ true) × (b ≡ true)
 both_true true b e = (refl, e)
 both_true false b e = absurd cc
 
-module _ (R : Run) (w b k : ℕ) where
+module _ (R : RunInTime) (w b k : ℕ) where
   pub open_then : turn_of_call R w b k ≡ true → open_at R k w ≡ Some b
-  open_then e = open_true (open_at R k w) b (both_true (is_turn_of w (R.request k)) _ e).1
+  open_then e = is_open_true (open_at R k w) b (both_true (is_turn_of_worker w (R.request k)) _ e).1
 
   pub open_test : open_at R k w ≡ Some b → is_open (open_at R k w) b ≡ true
   open_test o = ap (λ x. is_open x b) o ∙ eq-eqb b b refl
@@ -43,7 +40,7 @@ module _ (R : Run) (w b k : ℕ) where
   pub turn_counts : turns_taken R w b (suc k) ≤ turns_taken R w b k + 1
   turn_counts = omega (arith, count_next k (turn_of_call R w b), cond_both (turn_of_call R w b k) 1 0 (λ x. x ≤ 1) (λ _. omega arith) (λ _. omega arith))
 
-  pub no_turn_counts : is_turn_of w (R.request k) ≡ false → turns_taken R w b (suc k) ≡ turns_taken R w b k
+  pub no_turn_counts : is_turn_of_worker w (R.request k) ≡ false → turns_taken R w b (suc k) ≡ turns_taken R w b k
   no_turn_counts e = count_is k (turn_of_call R w b) false (ap (λ x. x && is_open (open_at R k w) b) e) ∙ omega arith
 
   -- nor does any before its call was open
@@ -51,7 +48,7 @@ module _ (R : Run) (w b k : ℕ) where
   none_taken h = count_none k (turn_of_call R w b) (λ t l. never t (h t l) (turn_of_call R w b t) refl)
     where
       never : (t : ℕ) → ¬ (open_at R t w ≡ Some b) → (x : Bool) → turn_of_call R w b t ≡ x → turn_of_call R w b t ≡ false
-      never t n true e = absurd (n (open_true (open_at R t w) b (both_true (is_turn_of w (R.request t)) _ e).1))
+      never t n true e = absurd (n (is_open_true (open_at R t w) b (both_true (is_turn_of_worker w (R.request t)) _ e).1))
       never t n false e = e
 
   -- the latest turn
@@ -78,7 +75,7 @@ module _ (R : Run) (w b k : ℕ) where
       let f = open_test o in
       count_is k (other_links R w b h) true (rw (f, t, e) refl)
 
-module _ (R : Run) (w b : ℕ) where
+module _ (R : RunInTime) (w b : ℕ) where
   pub taken_first : turns_taken R w b 0 ≡ 0
   unfolding count_before
   taken_first = refl
@@ -88,10 +85,10 @@ module _ (R : Run) (w b : ℕ) where
   links_first h = refl
 
 -- which requests are whose
-pub own_turn : (w : ℕ) → is_turn_of w (request.Turn w) ≡ true
+pub own_turn : (w : ℕ) → is_turn_of_worker w (request.Turn w) ≡ true
 own_turn w = eq-eqb w w refl
 
-pub not_own : (v w : ℕ) → ¬ (v ≡ w) → is_turn_of w (request.Turn v) ≡ false
+pub not_own : (v w : ℕ) → ¬ (v ≡ w) → is_turn_of_worker w (request.Turn v) ≡ false
 not_own v w n = ne_eqb v w n
 
 pub others_turn : (v w : ℕ) → ¬ (v ≡ w) → is_turn_of_other w (request.Turn v) ≡ true

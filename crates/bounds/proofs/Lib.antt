@@ -3,12 +3,12 @@ pub mod OwnTurn
 pub mod Counts
 mod Rounds
 pub mod Open
-pub mod OpenBack
 mod LinkedRows
 mod Moves
-mod Rows
+pub mod Rows
 pub mod SurveySteps
-mod SurveyTurns
-mod Bounds
-mod Counted
+pub mod SurveyTurns
+pub mod Bounds
+pub mod Counted
 mod Worked
+pub mod Theorems

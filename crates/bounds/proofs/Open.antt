@@ -1,25 +1,28 @@
 -- What is known of the call that a worker has open.
-use Rattle.std.proofs.Common.{◌≡◌, ℕ, ◌<◌, false, Some, None, Ok, Option, Result, sym, refl, ap, ◌∙◌, subst}
-use Rattle.std.proofs.lemmas.Bool.{lt-ltb}
+use Rattle.std.proofs.Common.{◌≡◌, ℕ, ◌<◌, true, false, Some, None, Ok, Option, Result, sym, refl, ap, ◌∙◌, subst, ⊎_elim}
+use Rattle.std.proofs.lemmas.Bool.{cases_eq, lt-ltb, false≢true}
 use Rattle.codes.specs.declared.answer.Answer.{Answer}
 use Rattle.codes.specs.declared.refusal.Refusal.{Refusal}
 use Rattle.layout.specs.declared.sizes.Sizes.{Sizes}
 use Rattle.places.specs.declared.place.Call.{Call}
 use Rattle.places.specs.declared.place.Place.{Place}
 use Rattle.places.specs.declared.place.Place.TheVariants as place
-use Rattle.stepper.specs.declared.request.Request.TheVariants as request
-use Rattle.stepper.specs.declared.request.Reply.TheVariants as reply
-use Rattle.stepper.specs.Turns.{answer_at}
-use Rattle.stepper.specs.Requests.{is_idle, begun_as, turn_refused, unless_refused, answered_or, reply_of}
-use Rattle.laws.specs.Sound.{RunsSound, RunsKeepLaws}
-use Rattle.laws.specs.Stamps.{RunsStamp}
-use Rattle.runs.specs.Runs.{Run}
+use Rattle.machine.specs.declared.request.Request.{Request}
+use Rattle.machine.specs.declared.request.Request.TheVariants as request
+use Rattle.machine.specs.declared.request.Reply.TheVariants as reply
+use Rattle.machine.specs.Turns.{answer_at}
+use Rattle.machine.specs.Requests.{is_idle, call_to_begin, turn_refused, unless_refused, answered_or, reply_of}
+use Rattle.runs.specs.Runs.{RunInTime}
 use Rattle.runs.specs.Views.{place_at}
 use Rattle.runs.specs.Seen.{open_at}
 use Rattle.runs.specs.Purposes.{InCall}
 use Rattle.runs.specs.Known.{Known}
-use Rattle.runs.specs.Reasons.{BegunBy, WorkerKnows, WorkerKnows.free, WorkerKnows.busy, RunsKnow}
-use Rattle.runs.proofs.Steps.{begin_taken, sizes_at}
+use Rattle.runs.specs.Reasons.{BegunBy, WorkerKnows, WorkerKnows.free, WorkerKnows.busy}
+use Rattle.laws.proofs.Taken.{begin_taken}
+use Rattle.runs.proofs.Steps.{acts, sizes_at}
+use Rattle.bounds.specs.Bounds.{is_turn_of_worker}
+use Rattle.bounds.proofs.Counts.{not_own}
+use Rattle.runs.proofs.Knows.{runs_know as know}
 
 pub some_same : {a b : ℕ} → Some a ≡ Some b → a ≡ b
 some_same e = cc
@@ -32,7 +35,7 @@ not_idle : (p : Place) (c : Call) → InCall p c → is_idle p ≡ false
 not_idle place.Idle c i = absurd i
 not_idle p c i = refl
 
-module _ (sound : RunsSound) (keep : RunsKeepLaws) (stamps : RunsStamp) (know : RunsKnow) (R : Run) where
+module _ (R : RunInTime) where
   -- what is known of an open call
   pub record OpenCall (k w b : ℕ) (c : Call) : Type 0 where
     pub before : b < k
@@ -43,7 +46,7 @@ module _ (sound : RunsSound) (keep : RunsKeepLaws) (stamps : RunsStamp) (know : 
   same_begun {k} {u} {w} {b} {c} {d} g h =
       let q : request.Begin g.begin ≡ request.Begin h.begin = sym g.asked ∙ h.asked in
       let s : g.begin ≡ h.begin = cc in
-      let r : ◌≡◌ {A = Result Call Refusal} (Ok c) (Ok d) = sym g.call ∙ ap (begun_as (R.state b)) s ∙ h.call in
+      let r : ◌≡◌ {A = Result Call Refusal} (Ok c) (Ok d) = sym g.call ∙ ap (call_to_begin (R.state b)) s ∙ h.call in
       cc
 
   pub open_call : (k u w b : ℕ) (c : Call) → w < R.sizes.workers → open_at R k w ≡ Some b → BegunBy R u w b c → OpenCall k w b c
@@ -60,19 +63,33 @@ module _ (sound : RunsSound) (keep : RunsKeepLaws) (stamps : RunsStamp) (know : 
   pub worker_is : (k w b : ℕ) (c : Call) → BegunBy R k w b c → w < R.sizes.workers
   worker_is k w b c g =
       let t = begin_taken (R.state b) g.begin c g.call in
-      subst (λ v. v < R.sizes.workers) g.worker (subst (λ (z : Sizes). g.begin.worker < z.workers) (sizes_at sound keep stamps R b) t.within)
+      subst (λ v. v < R.sizes.workers) g.worker (subst (λ (z : Sizes). g.begin.worker < z.workers) (sizes_at R b) t.within)
 
   -- a turn of it is not refused
   module _ (k w b : ℕ) (c : Call) (l : w < R.sizes.workers) (o : OpenCall k w b c) where
     not_refused : turn_refused (R.state k) w ≡ None
     not_refused =
         let idle = not_idle (place_at R k w) c o.place in
-        let small : w < (R.state k).sizes.workers = subst (λ (z : Sizes). w < z.workers) (sym (sizes_at sound keep stamps R k)) l in
+        let small : w < (R.state k).sizes.workers = subst (λ (z : Sizes). w < z.workers) (sym (sizes_at R k)) l in
         rw (lt-ltb w (R.state k).sizes.workers small, idle) refl
 
-    not_answer : (r : Option Answer) (y : Refusal) → answered_or (Ok r) ≡ reply.Refused y → ⊥
-    not_answer None y e = cc
-    not_answer (Some a) y e = cc
+    answers : (r : Option Answer) → acts (request.Turn w) (answered_or (Ok r)) ≡ true
+    answers None = refl
+    answers (Some a) = refl
+
+    turn_acts : acts (request.Turn w) (reply_of (R.state k) (request.Turn w)) ≡ true
+    turn_acts = ap (λ r. acts (request.Turn w) (answered_or (unless_refused r (answer_at (R.state k) w)))) not_refused ∙ answers (answer_at (R.state k) w)
 
     pub turn_accepted : (y : Refusal) → ¬ (reply_of (R.state k) (request.Turn w) ≡ reply.Refused y)
-    turn_accepted y e = not_answer (answer_at (R.state k) w) y (sym (ap (λ r. answered_or (unless_refused r (answer_at (R.state k) w))) not_refused) ∙ e)
+    turn_accepted y e = false≢true (sym (ap (acts (request.Turn w)) e) ∙ turn_acts)
+
+    -- what neither begins a call nor gives a turn is no turn of it
+    pub rests_other : acts (R.request k) (reply_of (R.state k) (R.request k)) ≡ false → is_turn_of_worker w (R.request k) ≡ false
+    rests_other f = go (R.request k) refl
+      where
+        go : (q : Request) → R.request k ≡ q → is_turn_of_worker w (R.request k) ≡ false
+        go (request.Turn v) e = ⊎_elim
+            (λ (g : v ≡ w). absurd (false≢true (sym (subst (λ q. acts q (reply_of (R.state k) q) ≡ false) (e ∙ ap request.Turn g) f) ∙ turn_acts)))
+            (λ (g : ¬ (v ≡ w)). ap (is_turn_of_worker w) e ∙ not_own v w g)
+            (cases_eq v w)
+        go q e = ap (is_turn_of_worker w) e

@@ -21,9 +21,9 @@ use Rattle.places.specs.Marks.{mark_of, is_ended}
 use Rattle.places.specs.Moved.{Next, Next as next}
 use Rattle.places.specs.Rules.{lost_link}
 use Rattle.places.specs.Touches.{change_head, settled_field}
-use Rattle.stepper.specs.States.{State}
-use Rattle.stepper.specs.Effects.{got_of}
-use Rattle.stepper.specs.Turns.{worker_at, hand_of, next_at}
+use Rattle.machine.specs.States.{State}
+use Rattle.machine.specs.Effects.{got_of}
+use Rattle.machine.specs.Turns.{worker_at, hand_of, next_at}
 use Rattle.laws.specs.Fits.{FitPair, FitLook, FitChange, FitPurpose, FitPlace}
 use Rattle.laws.specs.Changes.{number_in}
 use Rattle.laws.specs.Sound.{Sound}
@@ -59,9 +59,9 @@ purpose_fits s (purpose.Look f l r) g = look_fits s l g.0
 purpose_fits s (purpose.Own Ins d r) g = (change_fits s d g.0).0
 purpose_fits s (purpose.Own f d r) g = (change_fits s d g.0).1
 purpose_fits s (purpose.LostDel d r) g = (change_fits s d g.0).1
-purpose_fits s (purpose.WonIns i r) g = tt
-purpose_fits s (purpose.BindAgain o b) g = g.keys
-purpose_fits s (purpose.Again d o b f) g = g.0.keys
+purpose_fits s (purpose.WinnerIns i r) g = tt
+purpose_fits s (purpose.SourceAgain o b) g = g.keys
+purpose_fits s (purpose.CheckAgain d o b f) g = g.0.keys
 purpose_fits s (purpose.Compare d b f e x) g = g.keys
 purpose_fits s (purpose.Walk f k r) g = tt
 
@@ -77,7 +77,7 @@ place_fits s (place.WalkHead k) c e f = subst (PairFits s) e tt
 place_fits s (place.WalkOlder k r) c e f = subst (PairFits s) e tt
 
 module _ (s : State) (w : ℕ) (z : Sound s) (inside : w < s.sizes.workers) (c : Call) (plain : Plain c)
-    (again : (p : Purpose) → (worker_at s w).place ≡ place.Settle stage.Again p → is_ended (mark_of (number_in s (settled_field p))) ≡ true) where
+    (again : (p : Purpose) → (worker_at s w).place ≡ place.Settle stage.Reread p → is_ended (mark_of (number_in s (settled_field p))) ≡ true) where
   abbrev x : ℕ
   x = watched s c
 
@@ -100,7 +100,7 @@ module _ (s : State) (w : ℕ) (z : Sound s) (inside : w < s.sizes.workers) (c :
   by_next p e i q = subst (Allows p) (sym (next_is s w p e)) (next_reaches p (hand_of s.sizes s.cells w (worker_at s w) p) (got p) x c i plain q)
 
   -- where a link is lost, the head is not the one in hand
-  lost_turn : (d : Change) (h : ℕ) → change_call Add d ≡ c → ¬ (number_in s (cell.Head (change_head d)) ≡ h) → Allows (place.Link d h) (next.Out (lost_link d))
+  lost_turn : (d : Change) (h : ℕ) → change_call Add d ≡ c → ¬ (number_in s (cell.Head (change_head d)) ≡ h) → Allows (place.Link d h) (next.Moved (lost_link d))
   lost_turn (change.Vertex i) h e n = lost_vertex i h x
   lost_turn (change.Edge b) h e n = lost_edge b h x (λ q. n (ap (watched s) e ∙ q))
 
@@ -115,7 +115,7 @@ module _ (s : State) (w : ℕ) (z : Sound s) (inside : w < s.sizes.workers) (c :
   pub own_reaches : (p : Place) → (worker_at s w).place ≡ p → InCall p c → Allows p (next_at s w)
   own_reaches (place.Head l) e i = by_next (place.Head l) e i (reads l i)
   own_reaches (place.Link d h) e i = by_link d h e i
-  own_reaches (place.Settle stage.Again p) e i = by_next (place.Settle stage.Again p) e i (again p e)
+  own_reaches (place.Settle stage.Reread p) e i = by_next (place.Settle stage.Reread p) e i (again p e)
   own_reaches (place.Settle stage.First p) e i = by_next (place.Settle stage.First p) e i tt
   own_reaches (place.Settle stage.Clock p) e i = by_next (place.Settle stage.Clock p) e i tt
   own_reaches (place.Settle (stage.Swap n) p) e i = by_next (place.Settle (stage.Swap n) p) e i tt

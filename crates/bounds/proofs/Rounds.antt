@@ -6,7 +6,7 @@ use Rattle.places.specs.declared.place.Call.{Call}
 use Rattle.places.specs.declared.place.Call.TheVariants as call
 use Rattle.places.specs.declared.place.Pair.{Pair}
 use Rattle.places.specs.declared.place.Place.{Place}
-use Rattle.runs.specs.Runs.{Run}
+use Rattle.runs.specs.Runs.{RunInTime}
 use Rattle.runs.specs.Views.{head_at}
 use Rattle.runs.specs.Seen.{open_at}
 use Rattle.bounds.specs.Bounds.{is_turn_of_other, links_of_others}
@@ -14,7 +14,7 @@ use Rattle.bounds.proofs.Budgets.{hand, lost_upto, stale}
 use Rattle.bounds.proofs.OwnTurn.{pair_head, watched}
 use Rattle.bounds.proofs.Counts.{links_more, link_counts}
 
-module _ (R : Run) (w b : ℕ) where
+module _ (R : RunInTime) (w b : ℕ) where
   abbrev pub rounds : Call → ℕ → ℕ
   rounds (call.Edge Add p) k = 25 * links_of_others R w b (pair_head p) k
   rounds c k = 0

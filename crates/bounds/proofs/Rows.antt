@@ -9,19 +9,17 @@ use Rattle.layout.specs.declared.names.Cell.TheVariants as cell
 use Rattle.layout.specs.Layout.{Named}
 use Rattle.places.specs.Touches.{change_head}
 use Rattle.places.specs.declared.place.Change.{Change}
-use Rattle.laws.specs.Stamps.{RunsStamp}
-use Rattle.runs.specs.Runs.{Run}
+use Rattle.runs.specs.Runs.{RunInTime}
 use Rattle.runs.specs.Views.{head_at}
-use Rattle.runs.specs.Steps.{LinkStep, RunsStep}
-use Rattle.runs.specs.Times.{RunsLast}
+use Rattle.runs.specs.Steps.{LinkStep}
 use Rattle.walks.specs.Memory.{head_inside, memory_of}
 use Rattle.walks.specs.Courses.{Course}
 use Rattle.walks.specs.Budgets.{sum_below, links_over, rows_in}
 use Rattle.walks.proofs.Sums.{sum_le, sum_bump}
 use Rattle.walks.specs.Histories.{run_course}
 use Rattle.walks.proofs.Histories.{inside_or, head_outside, at_time, head_then, still}
-use Rattle.bounds.proofs.Moves.{step_head, Linking, stays_or}
-use Rattle.bounds.specs.Bounds.{count_before, any_below, links_row, rows_first}
+use Rattle.bounds.proofs.Moves.{step_head, LinkStepOver, stays_or}
+use Rattle.bounds.specs.Bounds.{count_before, any_below, links_row, rows_held_at_start}
 use Rattle.bounds.proofs.Counts.{count_is, count_more}
 
 or_false : (a b : Bool) → (a || b) ≡ false → (a ≡ false) × (b ≡ false)
@@ -44,7 +42,7 @@ stays_head x y e = by_test (eqb x y) refl e
     by_test false q f = absurd cc
 
 -- where no row is linked, all heads stay
-heads_stay : (R : Run) (k : ℕ) → links_row R k ≡ false → (h : Head) → Named R.sizes (cell.Head h) → head_at R (suc k) h ≡ head_at R k h
+heads_stay : (R : RunInTime) (k : ℕ) → links_row R k ≡ false → (h : Head) → Named R.sizes (cell.Head h) → head_at R (suc k) h ≡ head_at R k h
 heads_stay R k e (head.Vertex i) n = stays_head _ _ (or_false _ _ (any_false R.sizes.keys _ e i n)).0
 heads_stay R k e (head.Edge i j) n = stays_head _ _ (any_false R.sizes.keys _ (or_false _ _ (any_false R.sizes.keys _ e i n.0)).1 j n.1)
 
@@ -53,19 +51,19 @@ pub data RowsGrow (c : Course) (rows : ℕ → ℕ) (k : ℕ) : Type 0 where
   none_linked : ((h : Head) → (c.at (suc k)).head h ≡ (c.at k).head h) → rows k ≤ rows (suc k) → RowsGrow c rows k
   one_linked : (g : Head) → ((h : Head) → h ≢ g → (c.at (suc k)).head h ≡ (c.at k).head h) → suc (rows k) ≤ rows (suc k) → RowsGrow c rows k
 
-other_vertex : {i j : ℕ} → i ≢ j → head.Vertex i ≢ head.Vertex j
+pub other_vertex : {i j : ℕ} → i ≢ j → head.Vertex i ≢ head.Vertex j
 other_vertex d q = d (cc)
 
-other_from : {i j a o : ℕ} → i ≢ a → head.Edge i j ≢ head.Edge a o
+pub other_from : {i j a o : ℕ} → i ≢ a → head.Edge i j ≢ head.Edge a o
 other_from d q = d (cc)
 
-other_to : {i j a o : ℕ} → j ≢ o → head.Edge i j ≢ head.Edge a o
+pub other_to : {i j a o : ℕ} → j ≢ o → head.Edge i j ≢ head.Edge a o
 other_to d q = d (cc)
 
-edge_vertex : {i j a : ℕ} → head.Edge i j ≢ head.Vertex a
+pub edge_vertex : {i j a : ℕ} → head.Edge i j ≢ head.Vertex a
 edge_vertex q = grind arith
 
-vertex_edge : {i j a : ℕ} → head.Vertex a ≢ head.Edge i j
+pub vertex_edge : {i j a : ℕ} → head.Vertex a ≢ head.Edge i j
 vertex_edge q = grind arith
 
 -- the rows of all chains are those of the start and those that were linked
@@ -123,25 +121,25 @@ module _ (c : Course) (n : ℕ) (rows : ℕ → ℕ) (grow : (k : ℕ) → RowsG
   rows_fit a zero = a
   rows_fit a (suc k) = rows_step k (rows_fit a k) (grow k)
 
-module _ (stamp : RunsStamp) (step : RunsStep) (last : RunsLast) (R : Run) (now : ℕ) where
+module _ (R : RunInTime) (now : ℕ) where
   abbrev c : Course
   c = run_course R now
 
   abbrev pub rows : ℕ → ℕ
-  rows j = rows_first R + count_before (min j now) (links_row R)
+  rows j = rows_held_at_start R + count_before (min j now) (links_row R)
 
   module _ (k : ℕ) (l : k < now) where
-    rows_are : (P : ℕ → ℕ → Type 0) → P (rows_first R + count_before k (links_row R)) (rows_first R + count_before (suc k) (links_row R)) → P (rows k) (rows (suc k))
-    rows_are P p = subst₂ (λ i j. P (rows_first R + count_before i (links_row R)) (rows_first R + count_before j (links_row R))) (at_time stamp R step last now k (omega arith)) (at_time stamp R step last now (suc k) l) p
+    rows_are : (P : ℕ → ℕ → Type 0) → P (rows_held_at_start R + count_before k (links_row R)) (rows_held_at_start R + count_before (suc k) (links_row R)) → P (rows k) (rows (suc k))
+    rows_are P p = subst₂ (λ i j. P (rows_held_at_start R + count_before i (links_row R)) (rows_held_at_start R + count_before j (links_row R))) (at_time R now k (omega arith)) (at_time R now (suc k) l) p
 
     all_stay : links_row R k ≡ false → (h : Head) → (c.at (suc k)).head h ≡ (c.at k).head h
     all_stay e h = ⊎_elim
-        (λ (m : Named R.sizes (cell.Head h) × (head_inside R.sizes h ≡ true)). head_then stamp R step last now (suc k) h l m.0 ∙ heads_stay R k e h m.0 ∙ sym (head_then stamp R step last now k h (omega arith) m.0))
-        (λ (m : head_inside R.sizes h ≡ false). head_outside stamp R (min (suc k) now) h m ∙ sym (head_outside stamp R (min k now) h m))
+        (λ (m : Named R.sizes (cell.Head h) × (head_inside R.sizes h ≡ true)). head_then R now (suc k) h l m.0 ∙ heads_stay R k e h m.0 ∙ sym (head_then R now k h (omega arith) m.0))
+        (λ (m : head_inside R.sizes h ≡ false). head_outside R (min (suc k) now) h m ∙ sym (head_outside R (min k now) h m))
         (inside_or R.sizes h)
 
     others_stay : (g : Head) → ((d : Change) (r : ℕ) → LinkStep R k d r → g ≡ change_head d) → (h : Head) → h ≢ g → (c.at (suc k)).head h ≡ (c.at k).head h
-    others_stay g only h f = ⊎_elim (λ (e : (c.at (suc k)).head h ≡ (c.at k).head h). e) (λ (m : Linking stamp step last R now k l h). absurd (f (sym m.1 ∙ sym (only m.0 _ m.2)))) (stays_or stamp step last R now k l h)
+    others_stay g only h f = ⊎_elim (λ (e : (c.at (suc k)).head h ≡ (c.at k).head h). e) (λ (m : LinkStepOver R now k l h). absurd (f (sym m.1 ∙ sym (only m.0 _ m.2)))) (stays_or R now k l h)
 
     grows : (t : Bool) → links_row R k ≡ t → RowsGrow c rows k
     grows false e = none_linked (all_stay e) (rows_are (λ x y. x ≤ y) (omega (arith, count_more k (links_row R))))
@@ -152,15 +150,15 @@ module _ (stamp : RunsStamp) (step : RunsStep) (last : RunsLast) (R : Run) (now 
   rows_grow : (k : ℕ) → RowsGrow c rows k
   rows_grow k = ⊎_elim (λ (l : k < now). grows k l (links_row R k) refl)
       (λ (l : now ≤ k).
-      let e : min (suc k) now ≡ min k now = still stamp R step last now k l in
-      none_linked (λ h. ap (λ m. (memory_of (R.state m)).head h) e) (subst (λ m. rows k ≤ rows_first R + count_before m (links_row R)) (sym e) (omega arith))) (cases_lt k now)
+      let e : min (suc k) now ≡ min k now = still R now k l in
+      none_linked (λ h. ap (λ m. (memory_of (R.state m)).head h) e) (subst (λ m. rows k ≤ rows_held_at_start R + count_before m (links_row R)) (sym e) (omega arith))) (cases_lt k now)
 
   first_same : (h : Head) → Named R.sizes (cell.Head h) → links_over c 0 h ≤ cond (eqb (head_at R 0 h) no_row) 0 1
   unfolding links_over
-  first_same h n = rw (head_then stamp R step last now 0 h (omega arith) n) (omega arith)
+  first_same h n = rw (head_then R now 0 h (omega arith) n) (omega arith)
 
   first_rows : rows_in c R.sizes.keys 0 ≤ rows 0
-  unfolding rows_in rows_first count_before
+  unfolding rows_in rows_held_at_start count_before
   first_rows = omega (
     arith,
     sum_le R.sizes.keys (λ i. links_over c 0 (head.Vertex i)) (λ i. cond (eqb (head_at R 0 (head.Vertex i)) no_row) 0 1) (λ i l. first_same (head.Vertex i) l),

@@ -4,37 +4,35 @@ use Rattle.layout.specs.declared.sizes.Sizes.{Sizes}
 use Rattle.codes.specs.declared.answer.Answer.{Answer}
 use Rattle.places.specs.declared.place.Survey.{Survey}
 use Rattle.places.specs.declared.place.Call.TheVariants as call
-use Rattle.places.specs.Outs.{Out}
-use Rattle.stepper.specs.declared.request.Request.TheVariants as request
-use Rattle.stepper.specs.Turns.{turned}
-use Rattle.laws.specs.Sound.{RunsSound, RunsKeepLaws}
-use Rattle.laws.specs.Stamps.{RunsStamp}
-use Rattle.runs.specs.Runs.{Run}
+use Rattle.places.specs.Flows.{Flow}
+use Rattle.machine.specs.declared.request.Request.TheVariants as request
+use Rattle.machine.specs.Turns.{turned}
+use Rattle.runs.specs.Runs.{RunInTime}
 use Rattle.runs.specs.Seen.{open_at}
-use Rattle.runs.specs.Steps.{RunsStep}
-use Rattle.runs.specs.Times.{RunsLast}
-use Rattle.runs.specs.Reasons.{BegunBy, RunsKnow}
+use Rattle.runs.specs.Reasons.{BegunBy}
 use Rattle.walks.specs.Memory.{memory_of}
 use Rattle.walks.specs.Courses.{Course}
 use Rattle.walks.specs.Surveys.{turn_of, TurnDone, goes_to}
 use Rattle.walks.specs.Turns.{surveyor_of, goes}
-use Rattle.walks.specs.Budgets.{Counted, TurnsFit, WithinLimit}
-use Rattle.walks.specs.Histories.{RunsGiveSteps, run_course}
-use Rattle.walks.specs.Calls.{run_surveyor, RunsSurvey}
-use Rattle.walks.specs.Steps.{StepsGiveLaws}
+use Rattle.walks.specs.Budgets.{Counted, WithinLimit}
+use Rattle.walks.specs.Histories.{run_course}
+use Rattle.walks.specs.Calls.{run_surveyor}
 use Rattle.runs.proofs.Steps.{sizes_at}
-use Rattle.bounds.specs.Bounds.{count_before, links_row, rows_first, is_turn_of, turn_of_call, turns_taken, latest_turn}
+use Rattle.bounds.specs.Bounds.{count_before, links_row, rows_held_at_start, is_turn_of_worker, turn_of_call, turns_taken, latest_turn}
 use Rattle.bounds.specs.Surveys.{SurveysStayBounded}
 use Rattle.bounds.proofs.Counts.{both_true, open_then, open_test, none_taken, no_turn_counts, count_is, latest_next, taken_same, own_turn}
 use Rattle.bounds.proofs.Open.{open_call, worker_is}
-use Rattle.bounds.proofs.OpenBack.{open_back}
+use Rattle.walks.proofs.OpenBack.{open_back}
 use Rattle.bounds.proofs.Rows.{rows, rows_met_fit}
 use Rattle.bounds.proofs.SurveySteps.{Step, own, rests, step, done, goes_on, closes}
+use Rattle.walks.proofs.RunCourses.{runs_give_steps as give}
+use Rattle.walks.proofs.Steps.{steps_give_laws as laws}
+use Rattle.walks.proofs.Limits.{turns_fit as fit}
+use Rattle.walks.proofs.RunSurveys.{runs_survey as survey}
 
-module _ (give : RunsGiveSteps) (laws : StepsGiveLaws) (fit : TurnsFit) (survey : RunsSurvey) (sound : RunsSound) (keep : RunsKeepLaws) (stamps : RunsStamp) (steps : RunsStep)
-    (last : RunsLast) (know : RunsKnow) (R : Run) (w b : ℕ) (v : Survey) (l : w < R.sizes.workers) (since : ℕ) (begun : BegunBy R since w b (call.Survey v)) where
+module _ (R : RunInTime) (w b : ℕ) (v : Survey) (l : w < R.sizes.workers) (since : ℕ) (begun : BegunBy R since w b (call.Survey v)) where
   before : (k : ℕ) → open_at R k w ≡ Some b → b < k
-  before k o = (open_call sound keep stamps know R k since w b (call.Survey v) l o begun).before
+  before k o = (open_call R k since w b (call.Survey v) l o begun).before
 
   by : (k : ℕ) → b < k → BegunBy R k w b (call.Survey v)
   by k m = record { before = m; begin = begun.begin; asked = begun.asked; worker = begun.worker; call = begun.call }
@@ -56,30 +54,30 @@ module _ (give : RunsGiveSteps) (laws : StepsGiveLaws) (fit : TurnsFit) (survey 
 
   done_then : (k : ℕ) (o : open_at R k w ≡ Some b) → R.state (suc k) ≡ turned (R.state k) w →
       TurnDone R.sizes.top (memory_of (R.state k)) (memory_of (R.state (suc k))) (surveyor_of (R.state k) w)
-  done_then k o e = subst₂ (λ (z : Sizes) t. TurnDone z.top (memory_of (R.state k)) (memory_of t) (surveyor_of (R.state k) w)) (sizes_at sound keep stamps R k) (sym e)
-      (done sound keep stamps know R w b v l since begun k o)
+  done_then k o e = subst₂ (λ (z : Sizes) t. TurnDone z.top (memory_of (R.state k)) (memory_of t) (surveyor_of (R.state k) w)) (sizes_at R k) (sym e)
+      (done R w b v l since begun k o)
 
   -- a step while the call stays open
   steps_on : (k : ℕ) → open_at R k w ≡ Some b → open_at R (suc k) w ≡ Some b →
       (Same k (suc k) × (turns_taken R w b (suc k) ≡ turns_taken R w b k)) ⊎ (Moves k (suc k) × (turns_taken R w b (suc k) ≡ suc (turns_taken R w b k)))
-  steps_on k o then = by_step (step sound keep stamps know R w b v l since begun k o)
+  steps_on k o then = by_step (step R w b v l since begun k o)
     where
-      by_step : Step sound keep stamps know R w b v l since begun k o →
+      by_step : Step R w b v l since begun k o →
           (Same k (suc k) × (turns_taken R w b (suc k) ≡ turns_taken R w b k)) ⊎ (Moves k (suc k) × (turns_taken R w b (suc k) ≡ suc (turns_taken R w b k)))
       by_step (rests n e) = inl (e, no_turn_counts R w b k n)
       by_step (own q n e) = by_out (goes (R.state k) w).out refl
         where
-          by_out : (x : Out) → (goes (R.state k) w).out ≡ x →
+          by_out : (x : Flow) → (goes (R.state k) w).out ≡ x →
               (Same k (suc k) × (turns_taken R w b (suc k) ≡ turns_taken R w b k)) ⊎ (Moves k (suc k) × (turns_taken R w b (suc k) ≡ suc (turns_taken R w b k)))
           by_out (Continue p) f = inr (
             (
-              subst (λ (z : Sizes). turn_of z.keys z.top (memory_of (R.state k)) (surveyor_of (R.state k) w) ≡ goes_to (surveyor_of (R.state (suc k)) w)) (sizes_at sound keep stamps R k)
-                  (goes_on sound keep stamps know R w b v l since begun k o q n e p f).0,
+              subst (λ (z : Sizes). turn_of z.keys z.top (memory_of (R.state k)) (surveyor_of (R.state k) w) ≡ goes_to (surveyor_of (R.state (suc k)) w)) (sizes_at R k)
+                  (goes_on R w b v l since begun k o q n e p f).0,
               done_then k o e,
             ),
             counts_one k o q,
           )
-          by_out (Break a) f = absurd (let x : None ≡ Some b = sym (closes sound keep stamps know R w b v l since begun k o q n e a f) ∙ then in cc)
+          by_out (Break a) f = absurd (let x : None ≡ Some b = sym (closes R w b v l since begun k o q n e a f) ∙ then in cc)
 
   module _ (now till : ℕ) (far : till ≤ now) (o : open_at R till w ≡ Some b) where
     abbrev c : Course
@@ -117,19 +115,19 @@ module _ (give : RunsGiveSteps) (laws : StepsGiveLaws) (fit : TurnsFit) (survey 
     within = fit c R.sizes.keys (laws c R.sizes.keys (give R now)) R.sizes.top v (suc b) till (run_surveyor R now w) (turns_taken R w b) counted (before till o)
 
     -- by the rows in chains, so by those of the start and those that were linked
-    within_rows : turns_taken R w b till ≤ 1 + 8 * (R.sizes.keys * R.sizes.keys) + rows stamps steps last R now till
-    within_rows = omega (arith, within.sofar, rows_met_fit stamps steps last R now till)
+    within_rows : turns_taken R w b till ≤ 1 + 8 * (R.sizes.keys * R.sizes.keys) + rows R now till
+    within_rows = omega (arith, within.sofar, rows_met_fit R now till)
 
     answer_within : (a : Answer) → TurnDone R.sizes.top (c.at till) (c.at (suc till)) (run_surveyor R now w till) →
-        (turn_of R.sizes.keys R.sizes.top (c.at till) (run_surveyor R now w till)).out ≡ Break a → suc (turns_taken R w b till) ≤ 1 + 8 * (R.sizes.keys * R.sizes.keys) + rows stamps steps last R now (suc till)
-    answer_within a d e = omega (arith, within.answered a d e, rows_met_fit stamps steps last R now (suc till))
+        (turn_of R.sizes.keys R.sizes.top (c.at till) (run_surveyor R now w till)).out ≡ Break a → suc (turns_taken R w b till) ≤ 1 + 8 * (R.sizes.keys * R.sizes.keys) + rows R now (suc till)
+    answer_within a d e = omega (arith, within.answered a d e, rows_met_fit R now (suc till))
 
   -- with a turn of the call, by the rows that are linked then
   abbrev most : ℕ → ℕ
-  most k = 1 + 8 * (R.sizes.keys * R.sizes.keys) + (rows_first R + count_before k (links_row R))
+  most k = 1 + 8 * (R.sizes.keys * R.sizes.keys) + (rows_held_at_start R + count_before k (links_row R))
 
   turn_within : (k : ℕ) → turn_of_call R w b k ≡ true → turns_taken R w b (suc k) ≤ most (suc k)
-  turn_within k t = by_step (step sound keep stamps know R w b v l since begun k o)
+  turn_within k t = by_step (step R w b v l since begun k o)
     where
       o : open_at R k w ≡ Some b
       o = open_then R w b k t
@@ -140,18 +138,18 @@ module _ (give : RunsGiveSteps) (laws : StepsGiveLaws) (fit : TurnsFit) (survey 
       next : suc k ≡ min (suc k) (suc k)
       next = omega arith
 
-      by_step : Step sound keep stamps know R w b v l since begun k o → turns_taken R w b (suc k) ≤ most (suc k)
-      by_step (rests n e) = absurd (let x = sym (both_true (is_turn_of w (R.request k)) _ t).0 ∙ n in cc)
+      by_step : Step R w b v l since begun k o → turns_taken R w b (suc k) ≤ most (suc k)
+      by_step (rests n e) = absurd (let x = sym (both_true (is_turn_of_worker w (R.request k)) _ t).0 ∙ n in cc)
       by_step (own q n e) = by_out (goes (R.state k) w).out refl
         where
-          by_out : (x : Out) → (goes (R.state k) w).out ≡ x → turns_taken R w b (suc k) ≤ most (suc k)
+          by_out : (x : Flow) → (goes (R.state k) w).out ≡ x → turns_taken R w b (suc k) ≤ most (suc k)
           by_out (Continue p) f =
-              let then = (goes_on sound keep stamps know R w b v l since begun k o q n e p f).1 in
+              let then = (goes_on R w b v l since begun k o q n e p f).1 in
               subst (λ j. turns_taken R w b (suc k) ≤ most j) (sym next) (within_rows (suc k) (suc k) (omega arith) then)
           by_out (Break a) f =
               let d = subst₂ (λ i j. TurnDone R.sizes.top (memory_of (R.state i)) (memory_of (R.state j)) (surveyor_of (R.state i) w)) here next (done_then k o e) in
               let g = subst (λ i. (turn_of R.sizes.keys R.sizes.top (memory_of (R.state i)) (surveyor_of (R.state i) w)).out ≡ Break a) here
-              (subst (λ (z : Sizes). (turn_of z.keys z.top (memory_of (R.state k)) (surveyor_of (R.state k) w)).out ≡ Break a) (sizes_at sound keep stamps R k) f) in
+              (subst (λ (z : Sizes). (turn_of z.keys z.top (memory_of (R.state k)) (surveyor_of (R.state k) w)).out ≡ Break a) (sizes_at R k) f) in
               let m : suc (turns_taken R w b k) ≤ most (min (suc k) (suc k)) = answer_within (suc k) k (omega arith) o a d g in
               subst₂ (λ x j. x ≤ most j) (sym (counts_one k o q)) (sym next) m
 
@@ -167,6 +165,6 @@ module _ (give : RunsGiveSteps) (laws : StepsGiveLaws) (fit : TurnsFit) (survey 
   taken_within zero = omega (arith, none_taken R w b zero (λ t a o. omega arith))
   taken_within (suc k) = taken_next k (turn_of_call R w b k) refl (taken_within k)
 
-pub surveys_stay_bounded : RunsGiveSteps → StepsGiveLaws → TurnsFit → RunsSurvey → RunsSound → RunsKeepLaws → RunsStamp → RunsStep → RunsLast → RunsKnow → SurveysStayBounded
-surveys_stay_bounded give laws fit survey sound keep stamps steps last know R now w b v begun =
-    taken_within give laws fit survey sound keep stamps steps last know R w b v (worker_is sound keep stamps know R now w b (call.Survey v) begun) now begun now
+pub surveys_stay_bounded : SurveysStayBounded
+surveys_stay_bounded R now w b v begun =
+    taken_within R w b v (worker_is R now w b (call.Survey v) begun) now begun now

@@ -4,7 +4,7 @@ use Rattle.layout.specs.declared.names.Head.TheVariants as head
 use Rattle.places.specs.declared.place.Op.TheVariants.{Add, Remove, Contains}
 use Rattle.places.specs.declared.place.Call.{Call}
 use Rattle.places.specs.declared.place.Call.TheVariants as call
-use Rattle.runs.specs.Runs.{Run}
+use Rattle.runs.specs.Runs.{RunInTime}
 use Rattle.runs.specs.Reasons.{BegunBy}
 use Rattle.bounds.specs.Bounds.{turns_taken, latest_turn, links_of_others}
 
@@ -18,7 +18,7 @@ most_turns (call.Edge Remove p) links = 32
 most_turns (call.Edge Contains p) links = 27
 most_turns (call.Survey v) links = 0
 
-module _ (R : Run) (w b now : ℕ) where
+module _ (R : RunInTime) (w b now : ℕ) where
   -- the links of other workers on the pair of the call, up to its latest turn
   abbrev pub links_on_pair : Call → ℕ
   links_on_pair (call.Edge o p) = links_of_others R w b (head.Edge p.from p.to) (latest_turn R w b now)
@@ -29,4 +29,4 @@ module _ (R : Run) (w b now : ℕ) where
   WithinMost c = turns_taken R w b now ≤ most_turns c (links_on_pair c)
 
 abbrev pub TurnsAtMost : Type 0
-TurnsAtMost = (R : Run) (now w b : ℕ) (c : Call) → BegunBy R now w b c → WithinMost R w b now c
+TurnsAtMost = (R : RunInTime) (now w b : ℕ) (c : Call) → BegunBy R now w b c → WithinMost R w b now c

@@ -2,7 +2,7 @@
 use Rattle.std.specs.Prelude.{◌≡◌, ℕ, zero, suc, ◌-◌, List, [], ◌∷◌, ◌++◌, length, get_or, replicate, refl}
 use Rattle.std.proofs.Common.{lit≤}
 use Rattle.codes.specs.declared.answer.Answer.{Answer}
-use Rattle.codes.specs.declared.answer.Answer.TheVariants.{VertexAlready, VertexRemoved, VertexAbsent, EdgeAdded, EdgeRemoved, SnapshotTaken}
+use Rattle.codes.specs.declared.answer.Answer.TheVariants.{VertexAlready, VertexRemoved, VertexAbsent, EdgeAdded, EdgeAlready, EdgeRemoved, SnapshotTaken}
 use Rattle.layout.specs.declared.sizes.Sizes.{Sizes}
 use Rattle.layout.specs.Layout.{needed}
 use Rattle.places.specs.declared.place.Op.TheVariants.{Add, Remove, Contains}
@@ -10,15 +10,15 @@ use Rattle.places.specs.declared.place.Pair.{Pair}
 use Rattle.places.specs.declared.place.Survey.TheVariants.{Snapshot}
 use Rattle.places.specs.declared.place.Call.{Call}
 use Rattle.places.specs.declared.place.Call.TheVariants as call
-use Rattle.stepper.specs.declared.request.Request.{Request}
-use Rattle.stepper.specs.declared.request.Request.TheVariants.{Begin, Turn}
-use Rattle.stepper.specs.declared.request.Reply.TheVariants.{Answered}
-use Rattle.stepper.specs.States.{State}
-use Rattle.stepper.specs.Opening.{opened_state}
+use Rattle.machine.specs.declared.request.Request.{Request}
+use Rattle.machine.specs.declared.request.Request.TheVariants.{Begin, Turn}
+use Rattle.machine.specs.declared.request.Reply.TheVariants.{Answered}
+use Rattle.machine.specs.States.{State}
+use Rattle.machine.specs.Opening.{opened_state}
 use Rattle.laws.proofs.Clean.{openings_clean}
-use Rattle.stepper.specs.Requests.{reply_of, stepped}
-use Rattle.order.specs.Seen.{Sight.begins}
-use Rattle.runs.specs.Runs.{Run}
+use Rattle.machine.specs.Requests.{reply_of, stepped}
+use Rattle.order.specs.Seen.{CallSight.begins}
+use Rattle.runs.specs.Runs.{RunInTime}
 use Rattle.runs.specs.Seen.{seen}
 use Rattle.bounds.specs.Bounds.{turns_taken, rows_met}
 use Rattle.bounds.specs.Most.{most_turns, links_on_pair}
@@ -109,6 +109,13 @@ slow_lost_edge =
     ++ turns 2 4 ++ turns 0 12 ++ turns 3 4 ++ turns 0 11 ++ turns 2 1 ++ calls 2 2 0 0 ++ turns 2 4 ++ turns 0 4 ++ turns 2 1 ++ calls 2 2 1 0
     ++ turns 2 4 ++ turns 0 4
 
+-- Both keys are there. Worker 0 is about to link its edge row when worker 1 adds the edge and removes it; it starts again, and is about to link when worker 2 adds
+-- the edge; it starts again and finds that edge.
+abbrev pub lost_twice : List Request
+lost_twice =
+    calls 1 1 0 0 ++ turns 1 6 ++ calls 1 1 1 0 ++ turns 1 6 ++ calls 0 4 0 1 ++ turns 0 10 ++ calls 1 4 0 1 ++ turns 1 17 ++ calls 1 5 0 1 ++ turns 1 17
+    ++ turns 0 13 ++ calls 2 4 0 1 ++ turns 2 19 ++ turns 0 13
+
 -- A snapshot of the one key settles ins, and then del, of the one row.
 abbrev pub slow_snapshot : List Request
 slow_snapshot = calls 1 1 0 0 ++ turns 1 4 ++ calls 0 7 0 0 ++ turns 0 4 ++ turns 1 1 ++ calls 2 2 0 0 ++ turns 2 4 ++ turns 0 6
@@ -123,7 +130,7 @@ unfoldable pub one_key_after : List Request → ℕ → State
 one_key_after qs zero = opened_state (replicate (needed one_key) 0) one_key
 one_key_after qs (suc k) = stepped (one_key_after qs k) (get_or qs k (Turn 9))
 
-abbrev pub one_key_run : List Request → Run
+abbrev pub one_key_run : List Request → RunInTime
 unfolding one_key_after
 one_key_run qs = record {
   sizes = one_key;
@@ -134,7 +141,7 @@ one_key_run qs = record {
   next = λ k. refl;
 }
 
-abbrev pub run_of : List Request → Run
+abbrev pub run_of : List Request → RunInTime
 unfolding state_after
 run_of qs = record {
   sizes = small;
@@ -152,6 +159,13 @@ pub record TakesMost (qs : List Request) (b : ℕ) (c : Call) (links : ℕ) (a :
   pub linked : links_on_pair (run_of qs) 0 b (length qs) c ≡ links
   pub taken : turns_taken (run_of qs) 0 b (length qs) ≡ most_turns c links
 
+-- The add of the edge that worker 0 begins at time 14 loses two links. It had 36 turns, where 52 · (1 + 2) are allowed, and is answered by the last of the requests.
+pub record LosesTwo : Type 0 where
+  pub begun : seen (run_of lost_twice) 14 ≡ begins 0 (call.Edge Add pair)
+  pub answer : reply_of (state_after lost_twice (length lost_twice - 1)) (Turn 0) ≡ Answered EdgeAlready
+  pub linked : links_on_pair (run_of lost_twice) 0 14 (length lost_twice) (call.Edge Add pair) ≡ 2
+  pub taken : turns_taken (run_of lost_twice) 0 14 (length lost_twice) ≡ 36
+
 -- the snapshot that worker 0 begins at time 5 is answered by the last of the requests, and took 1 + 8 turns and one for the one row
 pub record SnapshotTakesMost : Type 0 where
   pub begun : seen (one_key_run slow_snapshot) 5 ≡ begins 0 (call.Survey Snapshot)
@@ -167,4 +181,5 @@ pub record Worked : Type 0 where
   pub remove_edge : TakesMost slow_remove_edge 3 (call.Edge Remove pair) 1 EdgeRemoved
   pub add_edge : TakesMost slow_add_edge 48 (call.Edge Add pair) 0 EdgeAdded
   pub lost_edge : TakesMost slow_lost_edge 48 (call.Edge Add pair) 1 EdgeAdded
+  pub two_links_lost : LosesTwo
   pub snapshot : SnapshotTakesMost

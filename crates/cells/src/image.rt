@@ -1,11 +1,14 @@
 // A byte image: four bytes a cell, highest first. Bytes left over at the end are no cell, and stay.
-ghost use Rattle.std.specs.Prelude.{◌≡◌, ℕ, ◌/◌, ◌<◌, length, slice_index, slice_set};
+ghost use Rattle.std.specs.Prelude.{◌≡◌, ℕ, [], ◌∷◌, ◌/◌, ◌<◌, length, slice_index, slice_set};
 ghost use Rattle.cells.specs.FourBytes.{words_of, spare_of};
 
 use crate::memory::CellMemory;
 
+/// A cell memory over bytes that the caller lends: four bytes a cell, highest first. Up to three bytes that are left over
+/// at the end belong to no cell.
 #[derive(Drop)]
 pub struct Image<'a> {
+    /// The bytes.
     pub bytes: &'a mut [u8],
 }
 
@@ -36,6 +39,7 @@ impl<'a> Image<'a> {
         requires { i < length self.old.bytes.now / 4 }
         ensures after { words_of self.new.bytes.now ≡ slice_set (words_of self.old.bytes.now) i v }
         ensures spare { spare_of self.new.bytes.now ≡ spare_of self.old.bytes.now }
+        ensures same_reference { self.new.bytes.ghost_name ≡ self.old.bytes.ghost_name }
     {
         let [a, b, c, d] = v.to_be_bytes();
         self.bytes[4 * i] = a;
@@ -45,10 +49,13 @@ impl<'a> Image<'a> {
     }
 }
 
+// The proofs do not close over a closure in `then`, and after one that writes they know nothing of the bytes.
 impl<'a> CellMemory for Image<'a> {
     ghost cells = { λ s. words_of s.bytes.now };
 
     ghost spare = { λ s. spare_of s.bytes.now };
+
+    ghost name = { λ s. s.bytes.ghost_name ∷ [] };
 
     fn len(&self) -> usize {
         self.count()
@@ -58,8 +65,7 @@ impl<'a> CellMemory for Image<'a> {
         each_fits(self.bytes)
     }
 
-    // The proof does not close over a closure in `then`.
-    fn read(&self, i: usize) -> Option<u32> {
+    fn read(&mut self, i: usize) -> Option<u32> {
         if i < self.count() {
             Some(self.get(i))
         } else {
@@ -67,11 +73,34 @@ impl<'a> CellMemory for Image<'a> {
         }
     }
 
-    // After a closure that writes, a proof knows nothing of the bytes.
     fn write(&mut self, i: usize, v: u32) -> Option<()> {
         if i < self.count() {
             self.put(i, v);
             Some(())
+        } else {
+            None
+        }
+    }
+
+    fn swap(&mut self, i: usize, old: u32, new: u32) -> Option<bool> {
+        if i >= self.count() {
+            return None;
+        }
+        let found = self.get(i) == old;
+        if found {
+            self.put(i, new);
+        }
+        Some(found)
+    }
+
+    fn raise(&mut self, i: usize, limit: u32) -> Option<u32> {
+        if i >= self.count() {
+            return None;
+        }
+        let was = self.get(i);
+        if was < limit {
+            self.put(i, was + 1);
+            Some(was)
         } else {
             None
         }

@@ -2,6 +2,7 @@
 #![tactic(auto)]
 
 mod image;
+mod lent;
 mod memory;
 mod words;
 

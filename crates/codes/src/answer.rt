@@ -2,6 +2,7 @@
 ghost use Rattle.std.specs.Prelude.{◌≡◌};
 ghost use Rattle.codes.specs.Codes.{answer_code};
 
+/// How a call ends. `u8::from` gives its byte, 0x10 to 0x41.
 #[derive(Clone, Copy, PartialEq, Eq, Debug)]
 pub enum Answer {
     VertexAdded = 0x10,

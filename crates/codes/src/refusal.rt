@@ -2,6 +2,7 @@
 ghost use Rattle.std.specs.Prelude.{◌≡◌};
 ghost use Rattle.codes.specs.Codes.{refusal_code};
 
+/// Why a request was not carried out. `u8::from` gives its byte, 0xE1 to 0xED.
 #[derive(Clone, Copy, PartialEq, Eq, Debug)]
 pub enum Refusal {
     SizeOutside = 0xE1,

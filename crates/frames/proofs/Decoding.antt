@@ -1,9 +1,13 @@
 -- Reading the bytes of a line, two digits for each.
-use Rattle.std.proofs.Common.{◌≡◌, ◌≢◌, ℕ, ◌+◌, ◌*◌, ◌<◌, ◌≤◌, List, [], ◌∷◌, ◌++◌, length, get_or, take, drop, set, Some, None, Option, suc, refl, sym, ap, ◌∙◌, arith}
+use Rattle.std.proofs.Common.{◌≡◌, ◌≢◌, ℕ, ◌+◌, ◌*◌, ◌<◌, ◌≤◌, List, [], ◌∷◌, ◌++◌, length, get_or, take, drop, set, Some, None, Option, Ok, Err, Result, ok_or, zero, suc, zero-lt-suc, refl, sym, ap, ◌∙◌, arith}
 use Rattle.std.proofs.lemmas.List.{take_all, take_more_set, append-nil, append_assoc, at_drop_more, at_drop_all}
 use Rattle.std.proofs.lemmas.Bool.Decides.{nat_tests}
+use Rattle.std.proofs.Math.Bridge.{le_prop}
+use Rattle.frames.specs.declared.frame.Frame.TheVariants.{Turns}
 use Rattle.frames.specs.Hex.{digit_of, byte_of, joined, bytes_of}
-use Rattle.frames.specs.Frames.{frame_of, frame_in}
+use Rattle.codes.specs.declared.refusal.Refusal.{Refusal}
+use Rattle.codes.specs.declared.refusal.Refusal.TheVariants.{NoFrame}
+use Rattle.frames.specs.Frames.{turns_of, frame_of, frame_in}
 
 -- the n-th byte of a line, by its digits
 abbrev byte_at : List ℕ → ℕ → Option ℕ
@@ -74,12 +78,26 @@ halved (x ∷ []) = tt
 halved (x ∷ (y ∷ rest)) = halved_joined (byte_of (digit_of x) (digit_of y)) (bytes_of rest) (length rest) (halved rest)
 
 -- the lengths of frames
-frame_lengths : (bs : List ℕ) → length bs ≢ 2 → length bs ≢ 3 → length bs ≢ 9 → length bs ≢ 11 → frame_of bs ≡ None
+frame_lengths : (bs : List ℕ) → length bs ≢ 2 → length bs ≢ 3 → length bs ≢ 9 → length bs ≢ 11 → frame_of bs ≡ Err NoFrame
 frame_lengths bs h2 h3 h9 h11 = grind (arith, nat_tests)
 
-none_halved : (x : Option (List ℕ)) (n : ℕ) → Halved x n → n ≢ 4 → n ≢ 6 → n ≢ 18 → n ≢ 22 → frame_in x ≡ None
+none_halved : (x : Option (List ℕ)) (n : ℕ) → Halved x n → n ≢ 4 → n ≢ 6 → n ≢ 18 → n ≢ 22 → frame_in x ≡ Err NoFrame
 none_halved None n h h4 h6 h18 h22 = refl
 none_halved (Some bs) n h h4 h6 h18 h22 = frame_lengths bs (omega arith) (omega arith) (omega arith) (omega arith)
 
-pub other_lengths_none : (line : List ℕ) → length line ≢ 4 → length line ≢ 6 → length line ≢ 18 → length line ≢ 22 → frame_in (bytes_of line) ≡ None
+pub other_lengths_none : (line : List ℕ) → length line ≢ 4 → length line ≢ 6 → length line ≢ 18 → length line ≢ 22 → frame_in (bytes_of line) ≡ Err NoFrame
 other_lengths_none line h4 h6 h18 h22 = none_halved (bytes_of line) (length line) (halved line) h4 h6 h18 h22
+
+-- a line that has no bytes is no frame, and one that has some is the frame of these
+pub framed_err : (x : Option (List ℕ)) (r : Result (List ℕ) Refusal) (e : Refusal) → r ≡ ok_or x NoFrame → r ≡ Err e → frame_in x ≡ Err e
+framed_err None r e p q = cc
+framed_err (Some bs) r e p q = cc
+
+pub framed_ok : (x : Option (List ℕ)) (r : Result (List ℕ) Refusal) (bs : List ℕ) → r ≡ ok_or x NoFrame → r ≡ Ok bs → frame_in x ≡ frame_of bs
+framed_ok None r bs p q = cc
+framed_ok (Some cs) r bs p q = let e : cs ≡ bs = cc in ap frame_of e
+
+-- a count that is not 0
+pub counted : (w n : ℕ) (p : 0 < n) → turns_of w n ≡ Ok (Turns w (record { value = n; ok = p }))
+counted w zero p = absurd (omega arith)
+counted w (suc n) p = ap (λ (q : 0 < suc n). Ok (Turns w (record { value = suc n; ok = q }))) (le_prop (zero-lt-suc n) p)

@@ -1,3 +1,3 @@
-mod Appending
-mod Decoding
+pub mod Appending
+pub mod Decoding
 mod Digits

@@ -1,15 +1,17 @@
 -- Bytes as pairs of hexadecimal digits: of either case where a line is read, capitals where one is written.
-use Rattle.std.specs.Prelude.{ℕ, ◌+◌, ◌-◌, ◌*◌, ◌/◌, ◌%◌, Bool, cond, ◌&&◌, List, [], ◌∷◌, Some, None, Option, nat_le, nat_lt}
+use Rattle.std.specs.Prelude.{ℕ, ◌+◌, ◌-◌, ◌*◌, ◌/◌, ◌%◌, Bool, if◌then◌else◌, ◌&&◌, List, [], ◌∷◌, Some, None, Option, nat_le, nat_lt}
 
+-- low ≤ x ≤ high
 abbrev pub between : ℕ → ℕ → ℕ → Bool
 between low x high = nat_le low x && nat_le x high
 
--- 0 to 9, A to F, a to f
+-- the value of a digit: 0 to 9, A to F, a to f
 abbrev pub digit_of : ℕ → Option ℕ
 digit_of c =
-    cond (between 48 c 57) (Some (c - 48))
-    (cond (between 65 c 70) (Some (c - 65 + 10))
-    (cond (between 97 c 102) (Some (c - 97 + 10)) None))
+    if between 48 c 57 then Some (c - 48)
+    else if between 65 c 70 then Some (c - 65 + 10)
+    else if between 97 c 102 then Some (c - 97 + 10)
+    else None
 
 -- the byte of a high and a low digit
 abbrev pub byte_of : Option ℕ → Option ℕ → Option ℕ
@@ -31,9 +33,9 @@ bytes_of [] = Some []
 bytes_of (h ∷ []) = None
 bytes_of (h ∷ (l ∷ rest)) = joined (byte_of (digit_of h) (digit_of l)) (bytes_of rest)
 
--- 0 to 9, then A to F
+-- the digit of a value: 0 to 9, then A to F
 abbrev pub capital : ℕ → ℕ
-capital d = cond (nat_lt d 10) (48 + d) (65 + (d - 10))
+capital d = if nat_lt d 10 then 48 + d else 65 + (d - 10)
 
 -- the digits of bytes, the high one of each first
 abbrev pub hex_of : List ℕ → List ℕ

@@ -1,5 +1,5 @@
 pub mod Hex
 pub mod Frames
 pub mod Replies
-pub mod Written
+pub mod Areas
 pub mod Cases

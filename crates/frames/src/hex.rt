@@ -28,7 +28,8 @@ fn value(c: u8) -> u16
     VALUES[usize::from(c)]
 }
 
-// The byte of two digits. A digit that is none makes more than a byte.
+/// The byte of two hexadecimal digits of either case, the high one first; none where one is no digit.
+// A character that is no digit makes more than a byte.
 pub fn byte(high: u8, low: u8) -> Option<u8>
     ensures { result ≡ byte_of (digit_of high) (digit_of low) }
 {
@@ -46,7 +47,7 @@ fn capital_of(d: u8) -> u8
     CAPITALS[usize::from(d)]
 }
 
-// The two digits of a byte, in capitals.
+/// The two digits of a byte in capitals, the high one first.
 pub fn digits(b: u8) -> [u8; 2]
     ensures { result ≡ hex_of (b ∷ []) }
 {

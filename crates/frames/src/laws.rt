@@ -1,7 +1,7 @@
 // Facts that stand with no code.
 ghost use Rattle.frames.specs.Cases.{Cases};
 
-// Some lines, read and written.
+/// Does nothing: it shows that some lines are read and written as the worked cases say.
 pub fn cases_stand()
     ensures { Cases }
 {}

@@ -7,10 +7,12 @@ use crate::hex::digits;
 use crate::reply::{Reply, code_byte};
 use codes::Refusal;
 
-// The digits of two bytes, or of three where a count stands behind them. In fixed memory: a replay has no heap.
+/// The digits of a reply's line: of two bytes, or of three where a count stands behind them. It needs no heap.
 #[derive(Clone, Copy, PartialEq, Eq, Debug)]
 pub enum Line {
+    /// A kind and a code.
     Two([u8; 4]),
+    /// A kind, a code and a count.
     Three([u8; 6]),
 }
 
@@ -34,7 +36,7 @@ impl Line {
         Line::Three([k1, k0, c1, c0, n1, n0])
     }
 
-    // The digits.
+    /// The digits, without a line feed.
     pub fn as_slice(&self) -> &[u8]
         ensures { result.now ≡ line_digits self.now }
     {
@@ -46,7 +48,7 @@ impl Line {
 }
 
 impl Reply {
-    // The line of the reply, without a line feed.
+    /// The line of the reply, without a line feed.
     pub fn line(self) -> Line
         ensures { line_digits result ≡ reply_line self }
     {

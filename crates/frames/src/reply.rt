@@ -4,10 +4,11 @@ ghost use Rattle.frames.specs.Replies.{code_byte};
 
 use codes::{Answer, Refusal};
 
-// How a request went. No answer: done, or still running.
+/// How a request went. No answer: done, or still running.
 pub type Code = Result<Option<Answer>, Refusal>;
 
-// The byte of a code. `Result` is the library's, so no `From`.
+/// The byte of a code: 00 for no answer, else that of the answer or of the refusal.
+// `Result` is the library's, so no `From`.
 pub fn code_byte(code: Code) -> u8
     ensures { result ≡ code_byte code }
 {
@@ -18,15 +19,18 @@ pub fn code_byte(code: Code) -> u8
     }
 }
 
+/// What is replied to a line, but for a page.
+// Each takes any code, so that a code has its byte in one place.
 #[derive(Clone, Copy, PartialEq, Eq, Debug)]
 pub enum Reply {
-    // Each takes any code, so that a code has its byte in one place.
+    /// To an opening.
     ToOpen(Code),
+    /// To the begin of a call.
     ToBegin(Code),
-    // With how many turns were used.
+    /// To turns, with how many were used.
     ToTurns(Code, u8),
-    // A page that is not given.
+    /// To a page that is asked for and not shown.
     ToTake(Refusal),
-    // To a line that is no frame.
+    /// To a line that is no frame, or none while nothing is open.
     NoFrame,
 }

@@ -1,8 +1,7 @@
 -- Every answered call on vertices or edges has a key, and every unfinished one whose change bears its stamp.
-use Rattle.std.proofs.Common.{◌≡◌, ℕ, suc, ◌+◌, ◌<◌, ◌≤◌, ◌⊎◌, true, false, Some, None, Ok, Option, Result, sym, refl, ap, ◌∙◌, subst, inl, inr, ⊎_elim, arith}
+use Rattle.std.proofs.Common.{◌≡◌, ℕ, suc, ◌+◌, ◌<◌, ◌≤◌, ◌⊎◌, true, false, Some, None, Option, sym, refl, ap, ◌∙◌, subst, inl, inr, ⊎_elim, arith}
 use Rattle.std.proofs.lemmas.Bool.{cases_lt}
 use Rattle.codes.specs.declared.answer.Answer.{Answer}
-use Rattle.codes.specs.declared.refusal.Refusal.{Refusal}
 use Rattle.codes.specs.declared.answer.Answer.TheVariants.{VertexAdded, VertexAlready, VertexRemoved, VertexAbsent, VertexPresent, EdgeAdded, EdgeRemoved, EdgeAlready, EdgePresent}
 use Rattle.layout.specs.declared.names.Kind.TheVariants.{Vertex, Edge}
 use Rattle.layout.specs.declared.names.Field.{Field}
@@ -16,52 +15,51 @@ use Rattle.places.specs.declared.place.Call.{Call}
 use Rattle.places.specs.declared.place.Call.TheVariants as call
 use Rattle.places.specs.Touches.{change_kind}
 use Rattle.places.specs.Rules.{edge_changed}
-use Rattle.stepper.specs.declared.request.Request.TheVariants as request
-use Rattle.stepper.specs.declared.request.Reply.TheVariants.{Answered}
-use Rattle.stepper.specs.Requests.{begun_as, reply_of}
+use Rattle.machine.specs.declared.request.Request.TheVariants as request
+use Rattle.machine.specs.declared.request.Reply.TheVariants.{Answered}
+use Rattle.machine.specs.Requests.{call_to_begin, reply_of}
 use Rattle.order.specs.Graph.{Feed, asks}
 use Rattle.order.specs.Past.{fed_until}
 use Rattle.order.specs.Keys.{Key}
 use Rattle.order.specs.Marks.{Mark, Marks, edge_effect}
 use Rattle.order.specs.Finds.{RowChange, no_change, makes_change}
-use Rattle.runs.specs.Runs.{Run}
+use Rattle.runs.specs.Runs.{RunInTime}
 use Rattle.runs.specs.Views.{clock_at, mark_at, place_at, LinkedAt}
 use Rattle.runs.specs.Seen.{open_at}
-use Rattle.runs.specs.Purposes.{change_op, change_call, InCall, Made, place_made}
+use Rattle.runs.specs.Purposes.{change_op, change_call, InCall, MadeChange, place_made}
 use Rattle.runs.specs.Known.{Has, OwnChange, NotBelow, StampedChange, ChangeEvent}
-use Rattle.runs.specs.Reasons.{vertex_changed, IsEnd, Why, Why.vertex_made, Why.vertex_here, Why.vertex_won, Why.vertex_gone, Why.vertex_ended, Why.ended_below, Why.edge_made, Why.edge_here, Why.edge_missed, Why.rows_spent, Right, BegunBy, WorkerKnows, WorkerKnows.free, WorkerKnows.busy}
+use Rattle.runs.specs.Reasons.{vertex_changed, IsEnd, Why, Why.vertex_made, Why.vertex_here, Why.vertex_won, Why.vertex_gone, Why.vertex_ended, Why.ended_below, Why.edge_made, Why.edge_here, Why.edge_missed, Why.rows_spent, HasReason, BegunBy, WorkerKnows, WorkerKnows.free, WorkerKnows.busy}
 use Rattle.runs.specs.VertexFinds.{MadeNone}
 use Rattle.keys.specs.Standing.{OfRows, StampedBy, Stands, Makes, Placing}
 use Rattle.keys.proofs.Laws.{KeysIn, RunLaws}
-use Rattle.keys.proofs.Base.{same_some, none_some, clocks, stamp_later, linked_later, turn_of, end_of, EndOf, end_or, event_linked, mark_of_field, mark_is, change_below}
+use Rattle.runs.proofs.Events.{clock_later, stamp_kept, linked_later}
+use Rattle.keys.proofs.Base.{same_some, none_some, turn_of, end_of, EndOf, end_or, event_linked, mark_of_field, mark_is, change_below}
 use Rattle.keys.proofs.Calls.{found_here, found_ended, found_gone, found_spent, found_won, added, removed, found_edge, found_no_edge}
 use Rattle.keys.proofs.EdgeChanges.{saw_both, not_below, has_row, added_edge, removed_edge, no_effect}
-
-pub one_call : (x y : Call) → ◌≡◌ {A = Result Call Refusal} (Ok x) (Ok y) → x ≡ y
-one_call x y e = cc
+use Rattle.runs.proofs.Sights.{one_call_of}
 
 -- one call began at a time
-pub same_call : (R : Run) (k w j v b : ℕ) (c d : Call) → BegunBy R k w b c → BegunBy R j v b d → c ≡ d
+pub same_call : (R : RunInTime) (k w j v b : ℕ) (c d : Call) → BegunBy R k w b c → BegunBy R j v b d → c ≡ d
 same_call R k w j v b c d x y =
     let e : request.Begin x.begin ≡ request.Begin y.begin = sym x.asked ∙ y.asked in
     let same : x.begin ≡ y.begin = cc in
-    one_call c d (sym x.call ∙ ap (begun_as (R.state b)) same ∙ y.call)
+    one_call_of c d (sym x.call ∙ ap (call_to_begin (R.state b)) same ∙ y.call)
 
-why_of : (R : Run) (k b : ℕ) (c : Call) (m : Option Made) (x : Answer) → OfRows c → Right R k b c m x → Why R k b c m x
+why_of : (R : RunInTime) (k b : ℕ) (c : Call) (m : Option MadeChange) (x : Answer) → OfRows c → HasReason R k b c m x → Why R k b c m x
 why_of R k b (call.Vertex o i) m x r h = h
 why_of R k b (call.Edge o p) m x r h = h
 why_of R k b (call.Survey v) m x r h = absurd r
 
-made_one : {x y : Made} → Some x ≡ Some y → x ≡ y
+made_one : {x y : MadeChange} → Some x ≡ Some y → x ≡ y
 made_one e = cc
 
-none_made : {x : Made} → None ≡ Some x → ⊥
+none_made : {x : MadeChange} → None ≡ Some x → ⊥
 none_made e = cc
 
 false_true : false ≡ true → ⊥
 false_true e = cc
 
-module _ (R : Run) (N : ℕ) (m : Marks) (g : RunLaws R N m) where
+module _ (R : RunInTime) (N : ℕ) (m : Marks) (g : RunLaws R N m) where
   -- a change is of the call that makes it
   pub in_call : (f : Field) (p b : ℕ) (d : Change) (r : ℕ) → ChangeEvent R f p b d r → (k w : ℕ) (c : Call) → BegunBy R k w b c → c ≡ change_call (change_op f) d
   in_call Ins p b d r ev k w c h = go (g.know.workers p ev.step.worker ev.step.turn.within)
@@ -89,7 +87,7 @@ module _ (R : Run) (N : ℕ) (m : Marks) (g : RunLaws R N m) where
       s ≡ (mark_of_field R N m g f (change_kind d) r).stamp → StampedBy R N b s
   stamped_by f k b d r n s kN o l e q =
       let z = o.before in
-      let y = stamp_later R N m g k N (change_kind d) f r n kN l e in
+      let y = stamp_kept R k N (change_kind d) f r n kN l e in
       let is = mark_is R N m g f o.time b d r n (omega arith) o.held.1 y in
       record { field = f; change = d; row = r; made = record { time = o.time; before = omega arith; held = o.held.1 }; bears = y ∙ ap Stamp (sym (q ∙ ap (λ (v : Mark). v.stamp) is)) }
 
@@ -107,19 +105,19 @@ module _ (R : Run) (N : ℕ) (m : Marks) (g : RunLaws R N m) where
   -- what is known of the call stands at time k; it was finished at a, and k is right after that, or it is unfinished, and both are now. Its one change is known
   module _ (b a k : ℕ) (bN : b < N) (aN : a ≤ N) (ka : k ≤ suc a) (kN : k ≤ N) (still : clock_at R k ≤ clock_at R a)
       (f : Field) (d : Change) (r n : ℕ) (own : OwnChange R k b f d r) (linked : LinkedAt R k (change_kind d) r) (stamped : mark_at R k (change_kind d) f r ≡ Stamp n)
-      (one : (i : Field) (p : ℕ) (e : Change) (s : ℕ) → p < N → ChangeEvent R i p b e s → ◌≡◌ {A = Made} (record { field = f; change = d; row = r }) (record { field = i; change = e; row = s })) where
+      (one : (i : Field) (p : ℕ) (e : Change) (s : ℕ) → p < N → ChangeEvent R i p b e s → ◌≡◌ {A = MadeChange} (record { field = f; change = d; row = r }) (record { field = i; change = e; row = s })) where
     placing : (x : Feed) (y : Answer) (q : Key) (v : RowChange) → Stands R N m b a x v y q → Makes R N m f d r q v → (makes_change v ≡ true → q.stamp ≡ (mark_of_field R N m g f (change_kind d) r).stamp) → Placing R N m b a x y
     placing x y q v st h s = record {
       key = q;
       change = v;
       stands = st;
-      makes = λ i p e j l ev. subst (λ (z : Made). Makes R N m z.field z.change z.row q v) (one i p e j l ev) h;
+      makes = λ i p e j l ev. subst (λ (z : MadeChange). Makes R N m z.field z.change z.row q v) (one i p e j l ev) h;
       bears = λ e. stamped_by f k b d r n q.stamp kN own linked stamped (s e);
     }
 
   module _ (b a k : ℕ) (bN : b < N) (aN : a ≤ N) (ka : k ≤ suc a) (kN : k ≤ N) (still : clock_at R k ≤ clock_at R a) where
     abbrev Single : Field → Change → ℕ → Type 0
-    Single f d r = (i : Field) (p : ℕ) (e : Change) (s : ℕ) → p < N → ChangeEvent R i p b e s → ◌≡◌ {A = Made} (record { field = f; change = d; row = r }) (record { field = i; change = e; row = s })
+    Single f d r = (i : Field) (p : ℕ) (e : Change) (s : ℕ) → p < N → ChangeEvent R i p b e s → ◌≡◌ {A = MadeChange} (record { field = f; change = d; row = r }) (record { field = i; change = e; row = s })
 
     -- 10, 12
     vertex_placing : (f : Field) (i r n : ℕ) → i < R.sizes.keys → OwnChange R k b f (change.Vertex i) r → LinkedAt R k Vertex r → mark_at R k Vertex f r ≡ Stamp n → Single f (change.Vertex i) r →
@@ -147,12 +145,12 @@ module _ (R : Run) (N : ℕ) (m : Marks) (g : RunLaws R N m) where
         let h = found_ended R N m g b a k bN aN ka kN still (call.Edge (change_op f) d.pair) i r s need w has lr es in
         let p = o.before in
         let low : (m.vertex_del r).stamp < n = omega (arith, ap (λ (v : Mark). v.stamp) y.is) in
-        let none = no_effect R N m g f o.time b d e n r (omega arith) o.held.1 (stamp_later R N m g k N Edge f e n kN l q) rows low in
+        let none = no_effect R N m g f o.time b d e n r (omega arith) o.held.1 (stamp_kept R k N Edge f e n kN l q) rows low in
         placing b a k bN aN ka kN still f (change.Edge d) e n o l q one (asks (call.Edge (change_op f) d.pair)) VertexAbsent h.0 no_change h.1 (makes_none f d e h.0 none) (λ z. absurd (false_true z))
 
   -- an answered call
   module _ (a w b : ℕ) (c : Call) (x : Answer) (l : a < N) (asked : R.request a ≡ request.Turn w) (reply : reply_of (R.state a) (request.Turn w) ≡ Answered x) (whose : open_at R a w ≡ Some b) (begun : BegunBy R a w b c) (rows : OfRows c) where
-    abbrev made : Option Made
+    abbrev made : Option MadeChange
     made = place_made (place_at R a w)
 
     bN : b < N
@@ -191,7 +189,7 @@ module _ (R : Run) (N : ℕ) (m : Marks) (g : RunLaws R N m) where
         both = saw_both R N m g (suc a) b f d e h.made
 
         top : n ≤ clock_at R N
-        top = omega (arith, change_below R N m g f h.made.time b (change.Edge d) e n (suc a) h.made.held.1 h.linked h.stamped, clocks R N m g (suc a) N l)
+        top = omega (arith, change_below R N m g f h.made.time b (change.Edge d) e n (suc a) h.made.held.1 h.linked h.stamped, clock_later R (suc a) N l)
 
         source_late : n ≤ (m.vertex_del d.source).stamp
         source_late = not_below R N m g (suc a) b f d e n d.source l h.made (has_row R N m g (suc a) b d.pair.from d.source both.0) s top
@@ -232,7 +230,7 @@ module _ (R : Run) (N : ℕ) (m : Marks) (g : RunLaws R N m) where
         let s : h.began ≡ b = same_some (sym h.whose ∙ whose) in
         let by : BegunBy R a w b h.call = subst (λ z. BegunBy R a w z h.call) s h.begun in
         let same : h.call ≡ c = same_call R a w a w b h.call c by begun in
-        answer_placing (why_of R (suc a) b c made x rows (subst (λ z. Right R (suc a) b z made x) same (subst (λ z. Right R (suc a) z h.call made x) s h.right)))
+        answer_placing (why_of R (suc a) b c made x rows (subst (λ z. HasReason R (suc a) b z made x) same (subst (λ z. HasReason R (suc a) z h.call made x) s h.right)))
 
   -- an unfinished call whose change bears its stamp
   module _ (w b : ℕ) (c : Call) (within : w < R.sizes.workers) (whose : open_at R N w ≡ Some b) (begun : BegunBy R N w b c) where
@@ -254,7 +252,7 @@ module _ (R : Run) (N : ℕ) (m : Marks) (g : RunLaws R N m) where
         keys_as f d r ev = subst (KeysIn R.sizes.keys) (in_call f p b d r ev N w c begun) (g.keys N w b c begun)
 
         row : (f : Field) (d : Change) (r : ℕ) → ChangeEvent R f p b d r → LinkedAt R N (change_kind d) r
-        row f d r ev = linked_later R N m g (suc p) N (change_kind d) r l (event_linked R N m g f p b d r ev)
+        row f d r ev = linked_later R (suc p) N (change_kind d) r l (event_linked R N m g f p b d r ev)
 
         below : (f : Field) (d : Bound) (r i s : ℕ) → (ev : ChangeEvent R f p b (change.Edge d) r) → mark_at R N Edge f r ≡ Stamp n → IsEnd d i s → Has R N b i s → (m.vertex_del s).stamp < n → (x : Answer) × Placing R N m b N (asks (call.Edge (change_op f) d.pair)) x
         below f d r i s ev e z has low =

@@ -19,18 +19,19 @@ use Rattle.order.specs.Marks.{Mark, Earlier, Marks, change_key}
 use Rattle.order.specs.Finds.{RowChange, no_change, vertex_born, vertex_ends, VertexFound, Finds, adds_vertex, removes_vertex, finds_vertex, finds_no_vertex, finds_edge, ends_spent}
 use Rattle.order.proofs.Fitting.{after_key_bounded, read_key_fits, change_key_fits, after_key_fits}
 use Rattle.order.proofs.Moves.{bounded_change}
-use Rattle.runs.specs.Runs.{Run}
+use Rattle.runs.specs.Runs.{RunInTime}
 use Rattle.runs.specs.Views.{clock_at, mark_at, LinkedAt}
-use Rattle.runs.specs.Times.{Past}
+use Rattle.runs.specs.Times.{Before}
 use Rattle.runs.specs.Known.{TurnOf, Dead, Has, HeadWas, Firm, OwnChange, LinkedSince}
-use Rattle.runs.specs.Events.{Ending}
+use Rattle.runs.specs.Events.{EndEventOfKind}
 use Rattle.runs.specs.Reasons.{Needs}
 use Rattle.runs.specs.Marking.{time_bound}
 use Rattle.runs.specs.VertexFinds.{turn_key, after_key, MadeNone}
 use Rattle.runs.specs.EdgeMisses.{KeyBefore, KeyBefore.at_turn as key_at_turn, KeyBefore.after_end}
 use Rattle.keys.specs.Standing.{Owner.at_turn, Owner.at_change, Owner.right_after, Stands}
 use Rattle.keys.proofs.Laws.{KeysIn, RunLaws}
-use Rattle.keys.proofs.Base.{clocks, stamp_later, turn_of, head_key, living_key, EndOf, end_of, ends_later, mark_is, change_stamp, vertex_in, born_low}
+use Rattle.runs.proofs.Events.{clock_later, stamp_kept}
+use Rattle.keys.proofs.Base.{turn_of, head_key, living_key, EndOf, end_of, ends_later, mark_is, change_stamp, vertex_in, born_low}
 
 -- 13, where key i is absent
 says_absent : (bound top : ℕ) (m : Marks) (k : Key) (c : Call) (i : ℕ) → Needs c i → VertexFound bound m k i false → Finds bound top m k (asks c) no_change VertexAbsent
@@ -49,7 +50,7 @@ needs_in n (call.Edge o p) i e h = ⊎_elim (λ (q : p.from ≡ i). subst (λ j.
 needs_in n (call.Survey v) i e h = absurd e
 
 -- what is known of the call stands at time k; it was finished at a, and k is right after that, or it is unfinished, and both are now
-module _ (R : Run) (N : ℕ) (m : Marks) (g : RunLaws R N m) (b a k : ℕ) (bN : b < N) (aN : a ≤ N) (ka : k ≤ suc a) (kN : k ≤ N) (still : clock_at R k ≤ clock_at R a) where
+module _ (R : RunInTime) (N : ℕ) (m : Marks) (g : RunLaws R N m) (b a k : ℕ) (bN : b < N) (aN : a ≤ N) (ka : k ≤ suc a) (kN : k ≤ N) (still : clock_at R k ≤ clock_at R a) where
   abbrev pub At : Feed → RowChange → Answer → Key → Type 0
   At f v x q = Stands R N m b a f v x q
 
@@ -65,9 +66,9 @@ module _ (R : Run) (N : ℕ) (m : Marks) (g : RunLaws R N m) (b a k : ℕ) (bN :
         record {
           bounded = record { time = omega arith; part = omega arith };
           time = omega arith;
-          low = clocks R N m g 0 t (omega arith);
-          high = clocks R N m g t N (omega arith);
-          fits = read_key_fits (clock_at R) (clocks R N m g) b a t (omega arith) (omega arith);
+          low = clock_later R 0 t (omega arith);
+          high = clock_later R t N (omega arith);
+          fits = read_key_fits (clock_at R) (clock_later R) b a t (omega arith) (omega arith);
           owner = at_turn refl u;
           finds = h;
         },
@@ -81,16 +82,16 @@ module _ (R : Run) (N : ℕ) (m : Marks) (g : RunLaws R N m) (b a k : ℕ) (bN :
     record {
       bounded = after_key_bounded (time_bound N) (record { stamp = n; time = p }) b (omega arith) (omega arith);
       time = z;
-      low = omega (arith, clocks R N m g 0 p (omega arith));
-      high = omega (arith, clocks R N m g a N aN);
-      fits = after_key_fits (clock_at R) (clocks R N m g) b a (record { stamp = n; time = p }) low (omega arith) (omega arith) (time_bound N) b since;
+      low = omega (arith, clock_later R 0 p (omega arith));
+      high = omega (arith, clock_later R a N aN);
+      fits = after_key_fits (clock_at R) (clock_later R) b a (record { stamp = n; time = p }) low (omega arith) (omega arith) (time_bound N) b since;
       owner = right_after refl;
       finds = h;
     },
   )
 
   -- a change happens after the start
-  end_pos : (r p : ℕ) → Ending R Vertex r p → 0 < p
+  end_pos : (r p : ℕ) → EndEventOfKind R Vertex r p → 0 < p
   end_pos r p x = omega (arith, (turn_of R N m g Del p x.began x.change r x.event).after)
 
   -- 11, 14
@@ -139,7 +140,7 @@ module _ (R : Run) (N : ℕ) (m : Marks) (g : RunLaws R N m) (b a k : ℕ) (bN :
           let x = end_of R N m g Vertex r k z.ended.number kN z.linked z.ended.is in
           let key = head_key R N m g h.time i r n (omega (arith, l)) h.held.1 (g.row k Vertex r z.linked).0 in
           let turn = h.held.0.after in
-          let rise = clocks R N m g b h.time (omega arith) in
+          let rise = clock_later R b h.time (omega arith) in
           let before : Earlier (record { stamp = z.ended.number; time = x.time }) (record { stamp = clock_at R h.time; time = h.time }) → Found (asks c) VertexAbsent =
           λ q. at_read (inr (subst (λ v. Earlier v (record { stamp = clock_at R h.time; time = h.time })) (sym x.is) q)) in
           let later : (b ≤ x.time) ⊎ (clock_at R b < z.ended.number) → Found (asks c) VertexAbsent = λ q. found_ended_row c i r z.ended.number e key x q in
@@ -153,7 +154,7 @@ module _ (R : Run) (N : ℕ) (m : Marks) (g : RunLaws R N m) (b a k : ℕ) (bN :
           (cases_lt z.ended.number (clock_at R h.time))
 
   -- 40
-  pub found_spent : Past k (λ t. TurnOf R t b) → Found (spent RowsSpent) RowsSpent
+  pub found_spent : Before k (λ t. TurnOf R t b) → Found (spent RowsSpent) RowsSpent
   found_spent u = found_at u.time (spent RowsSpent) RowsSpent u.held u.before (ends_spent RowsSpent refl)
 
   -- 11 after a lost link
@@ -163,7 +164,7 @@ module _ (R : Run) (N : ℕ) (m : Marks) (g : RunLaws R N m) (b a k : ℕ) (bN :
       let late = o.held.1 in
       let s = change_stamp R N m g Ins o.time o.held.0 (change.Vertex i) r n k o.before o.held.2 e in
       found_after n o.time (asks (call.Vertex Add i)) VertexAlready (omega arith) o.before s.0 s.1 (inl (omega arith))
-      (finds_vertex Add i true (g.vertices.born b i r o.held.0 o.time n o.held.2 (omega arith) (stamp_later R N m g k N Vertex Ins r n kN l e)) refl)
+      (finds_vertex Add i true (g.vertices.born b i r o.held.0 o.time n o.held.2 (omega arith) (stamp_kept R k N Vertex Ins r n kN l e)) refl)
 
   -- at a change x of the call's own
   at_own_change : (f : Feed) (v : RowChange) (y : Answer) (x : Mark) (n p : ℕ) → x ≡ record { stamp = n; time = p } → TurnOf R p b → p < k → clock_at R p ≤ n → n ≤ clock_at R k →
@@ -176,9 +177,9 @@ module _ (R : Run) (N : ℕ) (m : Marks) (g : RunLaws R N m) (b a k : ℕ) (bN :
       record {
         bounded = bounded_change (time_bound N) x (omega arith);
         time = omega arith;
-        low = omega (arith, clocks R N m g 0 p (omega arith));
-        high = omega (arith, clocks R N m g a N aN);
-        fits = change_key_fits (clock_at R) (clocks R N m g) b a x pending (omega arith) (omega arith) (time_bound N) (omega arith);
+        low = omega (arith, clock_later R 0 p (omega arith));
+        high = omega (arith, clock_later R a N aN);
+        fits = change_key_fits (clock_at R) (clock_later R) b a x pending (omega arith) (omega arith) (time_bound N) (omega arith);
         owner = at_change refl (subst (λ q. TurnOf R q b) (sym t) u);
         finds = h;
       }
@@ -188,11 +189,11 @@ module _ (R : Run) (N : ℕ) (m : Marks) (g : RunLaws R N m) (b a k : ℕ) (bN :
       At (asks (call.Vertex Add i)) (vertex_born r) VertexAdded (change_key (time_bound N) (m.vertex_ins r))
   added i r n o l e =
       let z = o.before in
-      let q = stamp_later R N m g k N Vertex Ins r n kN l e in
+      let q = stamp_kept R k N Vertex Ins r n kN l e in
       let is : m.vertex_ins r ≡ record { stamp = n; time = o.time } = mark_is R N m g Ins o.time b (change.Vertex i) r n (omega arith) o.held.1 q in
       let s = change_stamp R N m g Ins o.time b (change.Vertex i) r n k o.before o.held.1 e in
       let key : m.key_of r ≡ i = g.tell.key o.time b i r o.held.1 (omega arith) in
-      let top : (m.vertex_ins r).stamp ≤ clock_at R N = omega (arith, ap (λ (q : Mark). q.stamp) is, clocks R N m g k N kN) in
+      let top : (m.vertex_ins r).stamp ≤ clock_at R N = omega (arith, ap (λ (q : Mark). q.stamp) is, clock_later R k N kN) in
       at_own_change (asks (call.Vertex Add i)) (vertex_born r) VertexAdded (m.vertex_ins r) n o.time is o.held.0 o.before s.0 s.1
       (subst (λ j. Finds (time_bound N) (clock_at R N) m (change_key (time_bound N) (m.vertex_ins r)) (asks (call.Vertex Add j)) (vertex_born r) VertexAdded) key
       (adds_vertex r (record { row = vertex_in R N m g k r l; stamped = top; key = refl })))
@@ -204,7 +205,7 @@ module _ (R : Run) (N : ℕ) (m : Marks) (g : RunLaws R N m) (b a k : ℕ) (bN :
       let z = o.before in
       let ev = o.held.1 in
       let why = ev.why in
-      let q = stamp_later R N m g k N Vertex Del r n kN l e in
+      let q = stamp_kept R k N Vertex Del r n kN l e in
       let is : m.vertex_del r ≡ record { stamp = n; time = o.time } = mark_is R N m g Del o.time b (change.Vertex i) r n (omega arith) ev q in
       let s = change_stamp R N m g Del o.time b (change.Vertex i) r n k o.before ev e in
       let key : m.key_of r ≡ i = living_key R N m g why.time i r w (omega (arith, why.before)) why.held.1 in

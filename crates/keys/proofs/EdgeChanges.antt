@@ -19,13 +19,14 @@ use Rattle.order.specs.Marks.{Mark, Earlier, Marks, source_end, target_end, move
 use Rattle.order.specs.Finds.{RowChange, edge_born, edge_ends, pair_of, Finds, adds_edge, removes_edge}
 use Rattle.order.proofs.Fitting.{moved_time_after, moved_key_fits}
 use Rattle.order.proofs.Moves.{moved_part_is, bounded_moved}
-use Rattle.runs.specs.Runs.{Run}
+use Rattle.runs.specs.Runs.{RunInTime}
 use Rattle.runs.specs.Views.{clock_at, mark_at, LinkedAt}
 use Rattle.runs.specs.Known.{TurnOf, Has, OwnChange, NotBelow, ChangeEvent}
 use Rattle.runs.specs.Marking.{time_bound}
 use Rattle.keys.specs.Standing.{Owner, Owner.at_change, Owner.moved_back, Stands}
 use Rattle.keys.proofs.Laws.{RunLaws}
-use Rattle.keys.proofs.Base.{clocks, linked_later, stamp_later, living_key, EndOf, end_of, end_or, ends_later, mark_of_field, mark_is, change_stamp, change_below, edge_in, born_low}
+use Rattle.runs.proofs.Events.{clock_later, linked_later, stamp_kept}
+use Rattle.keys.proofs.Base.{living_key, EndOf, end_of, end_or, ends_later, mark_of_field, mark_is, change_stamp, change_below, edge_in, born_low}
 
 effect_true : (top : ℕ) (d f x : Mark) → x.stamp ≤ top → x.stamp ≤ d.stamp → x.stamp ≤ f.stamp → has_effect top d f x ≡ true
 effect_true top d f x a b c = grind (arith, nat_tests)
@@ -41,7 +42,7 @@ effect_parts_false top d f x l e =
     ⊎_elim (λ (z : f.stamp < x.stamp). inr z) (λ (z : x.stamp ≤ f.stamp). let q : true ≡ false = sym (effect_true top d f x l y z) ∙ e in absurd cc) (cases_lt f.stamp x.stamp))
     (cases_lt d.stamp x.stamp)
 
-module _ (R : Run) (N : ℕ) (m : Marks) (g : RunLaws R N m) where
+module _ (R : RunInTime) (N : ℕ) (m : Marks) (g : RunLaws R N m) where
   -- the rows to which the row of a change is bound
   pub record Binds (d : Bound) (e : ℕ) : Type 0 where
     pub source : m.source e ≡ d.source
@@ -90,12 +91,12 @@ module _ (R : Run) (N : ℕ) (m : Marks) (g : RunLaws R N m) where
       ⊎_elim
       (λ (y : (n : ℕ) × EndOf R N m g Vertex r N n).
       let t = ends_later R N m g Vertex r v.time y.1.time y.1.ending v.held.3 in
-      omega (arith, ap (λ (v : Mark). v.stamp) y.1.is, low, y.1.low, clocks R N m g v.time y.1.time t))
+      omega (arith, ap (λ (v : Mark). v.stamp) y.1.is, low, y.1.low, clock_later R v.time y.1.time t))
       (λ (y : m.vertex_del r ≡ record { stamp = clock_at R N + 1; time = 0 }). omega (arith, ap (λ (v : Mark). v.stamp) y))
-      (end_or R N m g Vertex r (linked_later R N m g k N Vertex r kN w))
+      (end_or R N m g Vertex r (linked_later R k N Vertex r kN w))
 
   pub has_row : (k b i s : ℕ) → Has R k b i s → LinkedAt R k Vertex s
-  has_row k b i s h = linked_later R N m g h.time k Vertex s (omega (arith, h.before)) h.held.1.linked
+  has_row k b i s h = linked_later R h.time k Vertex s (omega (arith, h.before)) h.held.1.linked
 
   -- what is known of the call stands at time k; it was finished at a, and k is right after that, or it is unfinished, and both are now
   module _ (b a k : ℕ) (bN : b < N) (aN : a ≤ N) (ka : k ≤ suc a) (kN : k ≤ N) (still : clock_at R k ≤ clock_at R a) where
@@ -114,7 +115,7 @@ module _ (R : Run) (N : ℕ) (m : Marks) (g : RunLaws R N m) where
         let t = ends_later R N m g Vertex r h.time q.1.time q.1.ending h.held.1.alive in
         inr (omega arith, omega (arith, ap (λ (v : Mark). v.time) q.1.is)))
         (λ (q : m.vertex_del r ≡ record { stamp = clock_at R N + 1; time = 0 }). absurd (omega (arith, ap (λ (v : Mark). v.stamp) q)))
-        (end_or R N m g Vertex r (linked_later R N m g h.time N Vertex r (omega arith) h.held.1.linked)))
+        (end_or R N m g Vertex r (linked_later R h.time N Vertex r (omega arith) h.held.1.linked)))
         (cases_lt x (m.vertex_del r).stamp)
 
     -- a change x of edge row e with an effect
@@ -135,12 +136,12 @@ module _ (R : Run) (N : ℕ) (m : Marks) (g : RunLaws R N m) where
 
       in_effect : edge_effect (clock_at R N) m e x ≡ true
       in_effect =
-          effect_true (clock_at R N) (source_end m e) (target_end m e) x (omega (arith, stamp_is, hi, clocks R N m g k N kN))
+          effect_true (clock_at R N) (source_end m e) (target_end m e) x (omega (arith, stamp_is, hi, clock_later R k N kN))
           (omega (arith, stamp_is, source_late, ap (λ (q : Mark). q.stamp) source_is)) (omega (arith, stamp_is, target_late, ap (λ (q : Mark). q.stamp) target_is))
 
       since : (i r : ℕ) (y : Mark) → y ≡ m.vertex_del r → Has R k b i r → n ≤ (m.vertex_del r).stamp → Earlier (record { stamp = x.stamp; time = b }) y
       since i r y q h z =
-          let v = ends_since i r n h (omega (arith, hi, clocks R N m g k N kN)) z in
+          let v = ends_since i r n h (omega (arith, hi, clock_later R k N kN)) z in
           subst (λ s. Earlier (record { stamp = s; time = b }) y) (sym stamp_is) (subst (Earlier (record { stamp = n; time = b })) (sym q) v)
 
       at_edge_change : (f : Feed) (v : RowChange) (y : Answer) → Finds (time_bound N) (clock_at R N) m (edge_key (time_bound N) m e x) f v y → At f v y (edge_key (time_bound N) m e x)
@@ -152,13 +153,13 @@ module _ (R : Run) (N : ℕ) (m : Marks) (g : RunLaws R N m) where
           let stamp : x.stamp ≤ clock_at R a = omega (arith, stamp_is) in
           let s = since d.pair.from d.source (source_end m e) source_is source_seen source_late in
           let t = since d.pair.to d.target (target_end m e) target_is target_seen target_late in
-          let after = moved_time_after (clock_at R) (clocks R N m g) b a x pending time stamp (source_end m e) (target_end m e) begun s t in
+          let after = moved_time_after (clock_at R) (clock_later R) b a x pending time stamp (source_end m e) (target_end m e) begun s t in
           record {
             bounded = bounded_moved (time_bound N) (source_end m e) (target_end m e) x (omega arith);
             time = omega arith;
-            low = omega (arith, clocks R N m g 0 p (omega arith), stamp_is);
-            high = omega (arith, clocks R N m g a N aN);
-            fits = moved_key_fits (clock_at R) (clocks R N m g) b a x pending time stamp (time_bound N) (source_end m e) (target_end m e) begun s t;
+            low = omega (arith, clock_later R 0 p (omega arith), stamp_is);
+            high = omega (arith, clock_later R a N aN);
+            fits = moved_key_fits (clock_at R) (clock_later R) b a x pending time stamp (time_bound N) (source_end m e) (target_end m e) begun s t;
             owner = owner (moved_part_is (time_bound N) (source_end m e) (target_end m e) x);
             finds = h;
           }
@@ -185,7 +186,7 @@ module _ (R : Run) (N : ℕ) (m : Marks) (g : RunLaws R N m) where
     added_edge d e n i j o w q source_late target_late =
         let ev = o.held.1 in
         let z = o.before in
-        let y = stamp_later R N m g k N Edge Ins e n kN w q in
+        let y = stamp_kept R k N Edge Ins e n kN w q in
         let is : m.edge_ins e ≡ record { stamp = n; time = o.time } = mark_is R N m g Ins o.time b (change.Edge d) e n (omega arith) ev y in
         let l = change_stamp R N m g Ins o.time b (change.Edge d) e n k o.before ev q in
         let both = saw_both k b Ins d e o in
@@ -206,7 +207,7 @@ module _ (R : Run) (N : ℕ) (m : Marks) (g : RunLaws R N m) where
         let ev = o.held.1 in
         let z = o.before in
         let h = ev.why in
-        let y = stamp_later R N m g k N Edge Del e n kN w q in
+        let y = stamp_kept R k N Edge Del e n kN w q in
         let is : m.edge_del e ≡ record { stamp = n; time = o.time } = mark_is R N m g Del o.time b (change.Edge d) e n (omega arith) ev y in
         let l = change_stamp R N m g Del o.time b (change.Edge d) e n k o.before ev q in
         let both = saw_both k b Del d e o in

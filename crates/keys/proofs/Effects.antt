@@ -14,16 +14,17 @@ use Rattle.order.specs.Past.{Past}
 use Rattle.order.specs.Keys.{Key}
 use Rattle.order.specs.Marks.{Mark, Marks, source_end, target_end, edge_effect}
 use Rattle.order.specs.Finds.{RowChange, edge_born, edge_ends, makes_change}
-use Rattle.runs.specs.Runs.{Run}
+use Rattle.runs.specs.Runs.{RunInTime}
 use Rattle.runs.specs.Views.{number_at, clock_at, mark_at, LinkedAt}
 use Rattle.runs.specs.Known.{OwnChange, ChangeEvent}
 use Rattle.keys.specs.Standing.{Makes, EdgeMakes}
 use Rattle.keys.specs.Told.{EndsBelow, LowerEnd, ChangesTold}
 use Rattle.keys.proofs.Laws.{RunLaws}
-use Rattle.keys.proofs.Base.{linked_later, turn_of, event_linked, EndOf, end_of, end_or, mark_of_field, mark_is, change_below}
+use Rattle.runs.proofs.Events.{linked_later}
+use Rattle.keys.proofs.Base.{turn_of, event_linked, EndOf, end_of, end_or, mark_of_field, mark_is, change_below}
 use Rattle.keys.proofs.EdgeChanges.{Binds, event_bound, saw_both, has_row, no_effect, effect_parts_false}
 
-module _ (R : Run) (N : ℕ) (m : Marks) (g : RunLaws R N m) where
+module _ (R : RunInTime) (N : ℕ) (m : Marks) (g : RunLaws R N m) where
   module _ (f : Field) (p b : ℕ) (d : Bound) (e x : ℕ) (l : p < N) (ev : ChangeEvent R f p b (change.Edge d) e) (is : mark_at R N Edge f e ≡ Stamp x) where
     own : OwnChange R N b f (change.Edge d) e
     own = record { time = p; before = l; held = (turn_of R N m g f p b (change.Edge d) e ev, ev) }
@@ -35,7 +36,7 @@ module _ (R : Run) (N : ℕ) (m : Marks) (g : RunLaws R N m) where
     target_linked = has_row R N m g N b d.pair.to d.target (saw_both R N m g N b f d e own).1
 
     top : x ≤ clock_at R N
-    top = change_below R N m g f p b (change.Edge d) e x N ev (linked_later R N m g (suc p) N Edge e l (event_linked R N m g f p b (change.Edge d) e ev)) is
+    top = change_below R N m g f p b (change.Edge d) e x N ev (linked_later R (suc p) N Edge e l (event_linked R N m g f p b (change.Edge d) e ev)) is
 
     ends_low : (r : ℕ) → LinkedAt R N Vertex r → EndsBelow R N r x → (m.vertex_del r).stamp < x
     ends_low r w y =

@@ -9,9 +9,9 @@ use Rattle.places.specs.declared.place.Change.TheVariants as change
 use Rattle.places.specs.declared.place.Call.{Call}
 use Rattle.places.specs.declared.place.Call.TheVariants as call
 use Rattle.places.specs.declared.place.Survey.{Survey}
-use Rattle.stepper.specs.declared.request.Request.TheVariants.{Turn}
-use Rattle.stepper.specs.declared.request.Reply.TheVariants.{Answered}
-use Rattle.stepper.specs.Requests.{reply_of}
+use Rattle.machine.specs.declared.request.Request.TheVariants.{Turn}
+use Rattle.machine.specs.declared.request.Reply.TheVariants.{Answered}
+use Rattle.machine.specs.Requests.{reply_of}
 use Rattle.questions.specs.Graph.{Graph}
 use Rattle.order.specs.Graph.{asks, Shows}
 use Rattle.order.specs.Past.{Finish, Past, Belongs, fed_until, fed_as, fed}
@@ -20,7 +20,7 @@ use Rattle.order.specs.Marks.{Marks}
 use Rattle.order.specs.Rows.{graph_before}
 use Rattle.order.specs.Finds.{RowChange, no_change, Finds}
 use Rattle.order.specs.Marked.{end_of, Told, CallMarked}
-use Rattle.runs.specs.Runs.{Run}
+use Rattle.runs.specs.Runs.{RunInTime}
 use Rattle.runs.specs.Views.{clock_at}
 use Rattle.runs.specs.Seen.{open_at}
 use Rattle.runs.specs.Purposes.{change_op, change_call}
@@ -31,7 +31,8 @@ use Rattle.keys.specs.Standing.{OfRows, Owner, StampedBy, Makes, Placing}
 use Rattle.keys.specs.Told.{CallTold, answered as told_answered, unfinished as told_unfinished, PastTold}
 use Rattle.keys.specs.Marking.{marking_for, SurveyMarked, SurveysMarked}
 use Rattle.keys.proofs.Laws.{RunLaws}
-use Rattle.keys.proofs.Base.{by_turn, open_call_of}
+use Rattle.runs.proofs.Once.{by_turn}
+use Rattle.keys.proofs.Base.{open_call_of}
 use Rattle.keys.proofs.Answers.{in_call, answered, changed_yet}
 use Rattle.keys.proofs.Effects.{counts}
 
@@ -66,7 +67,7 @@ not_none_some (Some x) e s = absurd cc
 pub is_some : {X : Type 0} (o : Option X) (x : X) → o ≡ Some x → IsSome o
 is_some o x e = subst IsSome (sym e) refl
 
-module _ (R : Run) (N : ℕ) (m : Marks) (g : RunLaws R N m) (h : Past) (past : PastTold R N h) where
+module _ (R : RunInTime) (N : ℕ) (m : Marks) (g : RunLaws R N m) (h : Past) (past : PastTold R N h) where
   -- a call with its key
   pub record Keyed (b : ℕ) : Type 0 where
     pub key : Key
@@ -150,7 +151,7 @@ module _ (R : Run) (N : ℕ) (m : Marks) (g : RunLaws R N m) (h : Past) (past : 
   -- the call of a change
   pub change_begun : (f : Field) (p b : ℕ) (d : Change) (r : ℕ) → p < N → ChangeEvent R f p b d r → (c : Call) × (h.begun b ≡ Some c) × OfRows c
   change_begun f p b d r l ev =
-      let t = by_turn R N m g f p b d r ev in
+      let t = by_turn R f p b d r ev in
       let o = open_call_of R N m g p t.worker b t.within t.whose in
       (o.call, past.calls.begun p t.worker b o.call (omega arith) o.begun, change_rows f d o.call (in_call R N m g f p b d r ev p t.worker o.call o.begun))
 

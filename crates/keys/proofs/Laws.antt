@@ -9,11 +9,11 @@ use Rattle.places.specs.declared.place.Bound.{Bound}
 use Rattle.places.specs.declared.place.Change.{Change}
 use Rattle.places.specs.declared.place.Call.{Call}
 use Rattle.places.specs.declared.place.Call.TheVariants as call
-use Rattle.stepper.specs.declared.request.Request.TheVariants.{Turn}
-use Rattle.stepper.specs.declared.request.Reply.TheVariants.{Answered}
-use Rattle.stepper.specs.Requests.{reply_of}
-use Rattle.order.specs.Marks.{Marks, Sound}
-use Rattle.runs.specs.Runs.{Run}
+use Rattle.machine.specs.declared.request.Request.TheVariants.{Turn}
+use Rattle.machine.specs.declared.request.Reply.TheVariants.{Answered}
+use Rattle.machine.specs.Requests.{reply_of}
+use Rattle.order.specs.Marks.{Marks, MarksSound}
+use Rattle.runs.specs.Runs.{RunInTime}
 use Rattle.runs.specs.Views.{clock_at, place_at, LinkedAt}
 use Rattle.runs.specs.Seen.{open_at}
 use Rattle.runs.specs.Times.{LastingLaws}
@@ -21,7 +21,7 @@ use Rattle.runs.specs.Purposes.{place_made}
 use Rattle.runs.specs.Known.{Firm, ChangeEvent}
 use Rattle.runs.specs.Reasons.{BegunBy, RunKnows}
 use Rattle.runs.specs.Events.{EventLaws}
-use Rattle.runs.specs.Marking.{time_bound, MarksTell}
+use Rattle.runs.specs.Marking.{time_bound, MarksTellRun}
 use Rattle.runs.specs.VertexFinds.{MadeNone, VertexFinds}
 use Rattle.runs.specs.EdgeFinds.{EdgeHere}
 use Rattle.runs.specs.EdgeMisses.{EdgeMissed}
@@ -33,13 +33,13 @@ KeysIn n (call.Vertex o i) = i < n
 KeysIn n (call.Edge o p) = (p.from < n) × (p.to < n)
 KeysIn n (call.Survey v) = Unit {0}
 
-pub record RunLaws (R : Run) (N : ℕ) (m : Marks) : Type 0 where
+pub record RunLaws (R : RunInTime) (N : ℕ) (m : Marks) : Type 0 where
   pub last : LastingLaws R
   pub know : RunKnows R
   pub events : EventLaws R
   pub once : (k w b : ℕ) → w < R.sizes.workers → open_at R k w ≡ Some b → (f : Field) (p : ℕ) (d : Change) (r : ℕ) → p < k → ChangeEvent R f p b d r → place_made (place_at R k w) ≡ Some (record { field = f; change = d; row = r })
-  pub tell : MarksTell R N m
-  pub sound : Sound (time_bound N) (clock_at R N) m
+  pub tell : MarksTellRun R N m
+  pub sound : MarksSound (time_bound N) (clock_at R N) m
   pub vertices : VertexFinds R N m
   pub edges : (b k : ℕ) (o : Op) (d : Bound) (e : ℕ) → MadeNone R N b → k ≤ N → d.pair.from < R.sizes.keys → d.pair.to < R.sizes.keys → Firm R k b o d (Ok e) → EdgeHere R N m b k d
   pub misses : (b k : ℕ) (o : Op) (d : Bound) (h : ℕ) → MadeNone R N b → k ≤ N → d.pair.from < R.sizes.keys → d.pair.to < R.sizes.keys → Firm R k b o d (Err h) → EdgeMissed R N b k m d

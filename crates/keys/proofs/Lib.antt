@@ -8,6 +8,6 @@ mod Stands
 mod Effects
 mod Keyed
 mod Marked
-mod Pasts
-mod Orders
-mod Search
+pub mod Pasts
+pub mod Orders
+pub mod Theorems

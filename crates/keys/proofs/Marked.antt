@@ -8,25 +8,27 @@ use Rattle.places.specs.declared.mark.Mark.TheVariants.{Stamp}
 use Rattle.places.specs.declared.place.Change.{Change}
 use Rattle.places.specs.declared.place.Change.TheVariants as change
 use Rattle.places.specs.Touches.{change_kind}
-use Rattle.stepper.specs.declared.request.Request.TheVariants as request
+use Rattle.machine.specs.declared.request.Request.TheVariants as request
 use Rattle.order.specs.Past.{Past, Belongs, fed}
 use Rattle.order.specs.Keys.{Key}
 use Rattle.order.specs.Marks.{Mark, Old, Marks, source_end, target_end, change_key, edge_effect, edge_key}
 use Rattle.order.specs.Finds.{RowChange, no_change, vertex_born, vertex_ends, edge_born, edge_ends, makes_change, Finds}
-use Rattle.order.specs.Marked.{Marking, RaiseKey, CallMarked, Made, before_start, by_call}
+use Rattle.order.specs.Marked.{Marking, RaiseKey, CallMarked, MadeAtKey, before_start, by_call}
 use Rattle.order.proofs.Lives.{effect_parts}
-use Rattle.runs.specs.Runs.{Run}
+use Rattle.runs.specs.Runs.{RunInTime}
 use Rattle.runs.specs.Views.{clock_at, mark_at, LinkedAt}
 use Rattle.runs.specs.Seen.{open_at}
-use Rattle.runs.specs.Known.{TurnOf, Stamped, ChangeEvent}
-use Rattle.runs.specs.Times.{Past as Before}
-use Rattle.runs.specs.Events.{Linking}
+use Rattle.runs.specs.Known.{TurnOf, StampedAt, ChangeEvent}
+use Rattle.runs.specs.Times.{Before}
+use Rattle.runs.specs.Events.{LinkEventOfKind}
 use Rattle.runs.specs.Marking.{time_bound, ins_of, del_of, old_mark}
 use Rattle.keys.specs.Standing.{Owner, Owner.at_turn, Owner.at_change, Owner.moved_back, Owner.right_after, Makes, EdgeMakes}
 use Rattle.keys.specs.Told.{PastTold}
 use Rattle.keys.specs.Marking.{marking_of, marking_for, SurveysMarked, RunMarked}
 use Rattle.keys.proofs.Laws.{RunLaws}
-use Rattle.keys.proofs.Base.{same_some, not_stamp, stamped_view, clocks}
+use Rattle.runs.proofs.Events.{clock_later}
+use Rattle.runs.proofs.Births.{stamped_or as stamped_view}
+use Rattle.keys.proofs.Base.{same_some, not_stamp}
 use Rattle.keys.proofs.Keyed.{Keyed, change_begun, keyed_or, is_some}
 
 one_turn : {v w : ℕ} → request.Turn v ≡ request.Turn w → v ≡ w
@@ -38,7 +40,7 @@ one_key e = cc
 no_key : {k : Key} → None ≡ Some k → ⊥
 no_key e = cc
 
-module _ (R : Run) (N : ℕ) where
+module _ (R : RunInTime) (N : ℕ) where
   -- a turn is of one call
   one_call_of_turn : (t u b c : ℕ) → TurnOf R t b → TurnOf R u c → t ≡ u → b ≡ c
   one_call_of_turn t u b c x y e =
@@ -65,7 +67,7 @@ module _ (R : Run) (N : ℕ) where
   apart_keys b c k l m n (right_after p) (moved_back q r v) t s = absurd (omega arith)
   apart_keys b c k l m n (right_after p) (right_after q) t s = omega arith
 
-module _ (R : Run) (N : ℕ) (m : Marks) (g : RunLaws R N m) where
+module _ (R : RunInTime) (N : ℕ) (m : Marks) (g : RunLaws R N m) where
   -- a change that gave a row its mark
   pub record ChangeOf (f : Field) (c : Kind) (r : ℕ) : Type 0 where
     pub time : ℕ
@@ -77,26 +79,26 @@ module _ (R : Run) (N : ℕ) (m : Marks) (g : RunLaws R N m) where
     pub event : ChangeEvent R f time began change r
     pub is : mark_at R N (change_kind change) f r ≡ Stamp stamp
 
-  not_born : (c : Kind) (r : ℕ) → (ins_of m c r).stamp ≤ clock_at R N → ¬ (¬ (LinkedAt R N c r × Stamped R N c Ins r))
+  not_born : (c : Kind) (r : ℕ) → (ins_of m c r).stamp ≤ clock_at R N → ¬ (¬ (LinkedAt R N c r × StampedAt R N c Ins r))
   not_born c r l n = omega (arith, ap (λ (v : Mark). v.stamp) (g.tell.unborn c r n))
 
-  not_over : (c : Kind) (r : ℕ) → (del_of m c r).stamp ≤ clock_at R N → ¬ (¬ (LinkedAt R N c r × Stamped R N c Del r))
+  not_over : (c : Kind) (r : ℕ) → (del_of m c r).stamp ≤ clock_at R N → ¬ (¬ (LinkedAt R N c r × StampedAt R N c Del r))
   not_over c r l n = omega (arith, ap (λ (v : Mark). v.stamp) (g.tell.unended c r n))
 
-  stamped_or : (f : Field) (c : Kind) (r : ℕ) → Stamped R N c f r ⊎ ¬ (Stamped R N c f r)
+  stamped_or : (f : Field) (c : Kind) (r : ℕ) → StampedAt R N c f r ⊎ ¬ (StampedAt R N c f r)
   stamped_or f c r = ⊎_elim (λ (x : (n : ℕ) × (mark_at R N c f r ≡ Stamp n)). inl (record { number = x.0; is = x.1 })) (λ (x : ¬ ((n : ℕ) × (mark_at R N c f r ≡ Stamp n))). inr (λ y. x (y.number, y.is))) (stamped_view (mark_at R N c f r))
 
-  bears : (f : Field) (c : Kind) (r : ℕ) → ¬ (¬ (LinkedAt R N c r × Stamped R N c f r)) → LinkedAt R N c r × Stamped R N c f r
+  bears : (f : Field) (c : Kind) (r : ℕ) → ¬ (¬ (LinkedAt R N c r × StampedAt R N c f r)) → LinkedAt R N c r × StampedAt R N c f r
   bears f c r n =
-      ⊎_elim (λ (l : LinkedAt R N c r). ⊎_elim (λ (s : Stamped R N c f r). (l, s)) (λ (s : ¬ (Stamped R N c f r)). absurd (n (λ x. s x.1))) (stamped_or f c r)) (λ (l : ¬ (LinkedAt R N c r)). absurd (n (λ x. l x.0))) (g.linked_or c r)
+      ⊎_elim (λ (l : LinkedAt R N c r). ⊎_elim (λ (s : StampedAt R N c f r). (l, s)) (λ (s : ¬ (StampedAt R N c f r)). absurd (n (λ x. s x.1))) (stamped_or f c r)) (λ (l : ¬ (LinkedAt R N c r)). absurd (n (λ x. l x.0))) (g.linked_or c r)
 
   birth_or : (c : Kind) (r : ℕ) → (ins_of m c r).stamp ≤ clock_at R N → LinkedAt R zero c r ⊎ ChangeOf Ins c r
   birth_or c r l = go (bears Ins c r (not_born c r l))
     where
-      go : LinkedAt R N c r × Stamped R N c Ins r → LinkedAt R zero c r ⊎ ChangeOf Ins c r
+      go : LinkedAt R N c r × StampedAt R N c Ins r → LinkedAt R zero c r ⊎ ChangeOf Ins c r
       go x =
           ⊎_elim (λ (o : LinkedAt R zero c r). inl o)
-          (λ (p : Before N (Linking R c r)).
+          (λ (p : Before N (LinkEventOfKind R c r)).
           inr (record { time = p.time; began = p.held.began; change = p.held.change; stamp = x.1.number; before = p.before; kind = p.held.kind; event = p.held.event; is = subst (λ u. mark_at R N u Ins r ≡ Stamp x.1.number) (sym p.held.kind) x.1.is }))
           (g.events.linked N c r x.0)
 
@@ -203,43 +205,43 @@ module _ (R : Run) (N : ℕ) (m : Marks) (g : RunLaws R N m) where
         let q = stood x.began (record { began = is_some (h.begun x.began) y.0 y.1; done = inr (is_some (h.stamp x.began) x.stamp s) }) in
         record { began = x.began; stands = q.call.key; change = q.call.change; key_is = q.key_is; change_is = q.change_is; makes = q.call.makes f x.time x.change r x.before x.event }
 
-    vertex_birth : (r : ℕ) → (m.vertex_ins r).stamp ≤ clock_at R N → Made run (m.vertex_ins r) (change_key (time_bound N) (m.vertex_ins r)) (vertex_born r)
+    vertex_birth : (r : ℕ) → (m.vertex_ins r).stamp ≤ clock_at R N → MadeAtKey run (m.vertex_ins r) (change_key (time_bound N) (m.vertex_ins r)) (vertex_born r)
     vertex_birth r l = ⊎_elim (λ (o : LinkedAt R zero Vertex r). before_start (old_ins Vertex r o)) (λ (x : ChangeOf Ins Vertex r). go x.change x.kind (maker Ins Vertex r x)) (birth_or Vertex r l)
       where
-        go : (d : Change) → change_kind d ≡ Vertex → Maker Ins d r → Made run (m.vertex_ins r) (change_key (time_bound N) (m.vertex_ins r)) (vertex_born r)
+        go : (d : Change) → change_kind d ≡ Vertex → Maker Ins d r → MadeAtKey run (m.vertex_ins r) (change_key (time_bound N) (m.vertex_ins r)) (vertex_born r)
         go (change.Vertex i) e y = by_call y.began (y.key_is ∙ ap (λ z. Some z) y.makes.0) (y.change_is ∙ y.makes.1)
         go (change.Edge b) e y = absurd cc
 
-    vertex_ending : (r : ℕ) → (m.vertex_del r).stamp ≤ clock_at R N → Made run (m.vertex_del r) (change_key (time_bound N) (m.vertex_del r)) (vertex_ends r)
+    vertex_ending : (r : ℕ) → (m.vertex_del r).stamp ≤ clock_at R N → MadeAtKey run (m.vertex_del r) (change_key (time_bound N) (m.vertex_del r)) (vertex_ends r)
     vertex_ending r l = go (x.change) x.kind (maker Del Vertex r x)
       where
         x : ChangeOf Del Vertex r
         x = end_of_row Vertex r l
 
-        go : (d : Change) → change_kind d ≡ Vertex → Maker Del d r → Made run (m.vertex_del r) (change_key (time_bound N) (m.vertex_del r)) (vertex_ends r)
+        go : (d : Change) → change_kind d ≡ Vertex → Maker Del d r → MadeAtKey run (m.vertex_del r) (change_key (time_bound N) (m.vertex_del r)) (vertex_ends r)
         go (change.Vertex i) e y = by_call y.began (y.key_is ∙ ap (λ z. Some z) y.makes.0) (y.change_is ∙ y.makes.1)
         go (change.Edge b) e y = absurd cc
 
-    edge_made : (x : Mark) (e b : ℕ) (w v : RowChange) (k : Key) → edge_effect (clock_at R N) m e x ≡ true → key b ≡ Some k → change_made b ≡ v → EdgeMakes R N m x e w k v → Made run x (edge_key (time_bound N) m e x) w
+    edge_made : (x : Mark) (e b : ℕ) (w v : RowChange) (k : Key) → edge_effect (clock_at R N) m e x ≡ true → key b ≡ Some k → change_made b ≡ v → EdgeMakes R N m x e w k v → MadeAtKey run x (edge_key (time_bound N) m e x) w
     edge_made x e b w v k f p q (inl (_, s, t)) = by_call b (p ∙ ap (λ z. Some z) s) (q ∙ t)
     edge_made x e b w v k f p q (inr (s, _)) = let z : true ≡ false = sym f ∙ s in absurd cc
 
-    edge_birth : (e : ℕ) → edge_effect (clock_at R N) m e (m.edge_ins e) ≡ true → Made run (m.edge_ins e) (edge_key (time_bound N) m e (m.edge_ins e)) (edge_born e)
+    edge_birth : (e : ℕ) → edge_effect (clock_at R N) m e (m.edge_ins e) ≡ true → MadeAtKey run (m.edge_ins e) (edge_key (time_bound N) m e (m.edge_ins e)) (edge_born e)
     edge_birth e f =
         ⊎_elim (λ (o : LinkedAt R zero Edge e). before_start (old_ins Edge e o)) (λ (x : ChangeOf Ins Edge e). go x.change x.kind (maker Ins Edge e x))
         (birth_or Edge e (effect_parts (time_bound N) (clock_at R N) (source_end m e) (target_end m e) (m.edge_ins e) f).0)
       where
-        go : (d : Change) → change_kind d ≡ Edge → Maker Ins d e → Made run (m.edge_ins e) (edge_key (time_bound N) m e (m.edge_ins e)) (edge_born e)
+        go : (d : Change) → change_kind d ≡ Edge → Maker Ins d e → MadeAtKey run (m.edge_ins e) (edge_key (time_bound N) m e (m.edge_ins e)) (edge_born e)
         go (change.Vertex i) q y = absurd cc
         go (change.Edge b) q y = edge_made (m.edge_ins e) e y.began (edge_born e) y.change y.stands f y.key_is y.change_is y.makes
 
-    edge_ending : (e : ℕ) → edge_effect (clock_at R N) m e (m.edge_del e) ≡ true → Made run (m.edge_del e) (edge_key (time_bound N) m e (m.edge_del e)) (edge_ends e)
+    edge_ending : (e : ℕ) → edge_effect (clock_at R N) m e (m.edge_del e) ≡ true → MadeAtKey run (m.edge_del e) (edge_key (time_bound N) m e (m.edge_del e)) (edge_ends e)
     edge_ending e f = go (x.change) x.kind (maker Del Edge e x)
       where
         x : ChangeOf Del Edge e
         x = end_of_row Edge e (effect_parts (time_bound N) (clock_at R N) (source_end m e) (target_end m e) (m.edge_del e) f).0
 
-        go : (d : Change) → change_kind d ≡ Edge → Maker Del d e → Made run (m.edge_del e) (edge_key (time_bound N) m e (m.edge_del e)) (edge_ends e)
+        go : (d : Change) → change_kind d ≡ Edge → Maker Del d e → MadeAtKey run (m.edge_del e) (edge_key (time_bound N) m e (m.edge_del e)) (edge_ends e)
         go (change.Vertex i) q y = absurd cc
         go (change.Edge b) q y = edge_made (m.edge_del e) e y.began (edge_ends e) y.change y.stands f y.key_is y.change_is y.makes
 
@@ -248,8 +250,8 @@ module _ (R : Run) (N : ℕ) (m : Marks) (g : RunLaws R N m) where
       key = key;
       change = change_made;
       marked = record {
-        rises = clocks R N m g;
-        start_stamp = clocks R N m g 0 N (omega arith);
+        rises = clock_later R;
+        start_stamp = clock_later R 0 N (omega arith);
         some_time = omega arith;
         keyed = λ b x. (let y = stood b x in (y.call.key, y.key_is));
         calls = λ b k e. (let y = at_key b k e in subst (CallMarked h run b) y.key_is (call_marked b y.call.key y.call.change y.change_is y.call.marked));

@@ -1,32 +1,33 @@
 -- A past that is made of what is seen tells the calls of the run.
-use Rattle.std.proofs.Common.{◌≡◌, ℕ, zero, suc, ◌<◌, ◌⊎◌, Bool, true, false, Some, None, Option, sym, refl, ap, ◌∙◌, subst, inl, inr, arith}
+use Rattle.std.proofs.Common.{◌≡◌, ℕ, zero, suc, ◌<◌, ◌⊎◌, Bool, true, false, Some, None, Option, sym, refl, ap, ap₂, ◌∙◌, subst, inl, inr, arith}
 use Rattle.std.specs.Prelude.{IsSome, cond, nat_lt}
-use Rattle.std.proofs.lemmas.Bool.{lt-ltb, ltb-true, eqb-true}
+use Rattle.std.proofs.lemmas.Bool.{lt-ltb, ltb-true, false≢true}
 use Rattle.codes.specs.declared.answer.Answer.{Answer}
 use Rattle.places.specs.declared.call.Begin.{Begin}
 use Rattle.places.specs.declared.place.Call.{Call}
 use Rattle.places.specs.declared.place.Call.TheVariants as call
-use Rattle.stepper.specs.declared.request.Request.{Request}
-use Rattle.stepper.specs.declared.request.Request.TheVariants as request
-use Rattle.stepper.specs.declared.request.Reply.{Reply}
-use Rattle.stepper.specs.declared.request.Reply.TheVariants as reply
-use Rattle.stepper.specs.Requests.{reply_of}
+use Rattle.machine.specs.declared.request.Request.{Request}
+use Rattle.machine.specs.declared.request.Request.TheVariants as request
+use Rattle.machine.specs.declared.request.Reply.{Reply}
+use Rattle.machine.specs.declared.request.Reply.TheVariants as reply
+use Rattle.machine.specs.Requests.{reply_of}
 use Rattle.questions.specs.Graph.{Graph}
 use Rattle.order.specs.Past.{Finish, Past}
-use Rattle.order.specs.Seen.{Sight, begins, finishes, neither, open_after, open_call, is_open, finish_after, finish_by, call_begun, past_of, OneAtATime, PastsSeen}
-use Rattle.order.proofs.Seen.{open_began}
-use Rattle.laws.specs.Sound.{RunsSound, RunsKeepLaws}
-use Rattle.laws.specs.Stamps.{RunsStamp}
-use Rattle.runs.proofs.Steps.{StepCase, StepCase.keeps as rests, StepCase.begins as starts, StepCase.turns as moves, case_at}
+use Rattle.order.specs.Seen.{CallSight, begins, finishes, neither, open_after, open_call, is_open, finish_after, finish_by, call_begun, past_of, OneAtATime}
+use Rattle.order.proofs.Seen.{open_began, is_open_true}
+use Rattle.runs.proofs.Steps.{acts, StepCase, StepCase.rests, StepCase.begins as starts, StepCase.turns as moves, case_at}
 use Rattle.keys.proofs.Base.{same_some, none_some}
 use Rattle.keys.proofs.Answers.{same_call}
-use Rattle.runs.specs.Runs.{Run}
+use Rattle.runs.specs.Runs.{RunInTime}
 use Rattle.runs.specs.Purposes.{InCall}
 use Rattle.runs.specs.Seen.{page_graph, sight_of, seen, open_at}
-use Rattle.runs.specs.Reasons.{BegunBy, RunsKnow, WorkerKnows, WorkerKnows.free, WorkerKnows.busy}
-use Rattle.runs.specs.Sights.{SeenLaws, RunsSeen}
+use Rattle.runs.specs.Reasons.{BegunBy, WorkerKnows, WorkerKnows.free, WorkerKnows.busy}
+use Rattle.runs.specs.Sights.{SeenLaws}
 use Rattle.keys.specs.Told.{CallTold, answered, unfinished, CallsTold, PastsTell, TurnsRaise}
 use Rattle.keys.proofs.Turning.{worker_of}
+use Rattle.runs.proofs.Knows.{runs_know as know}
+use Rattle.order.proofs.Seen.{pasts_seen as pasts}
+use Rattle.runs.proofs.Sights.{runs_seen as laws}
 
 one_begin : {v w : ℕ} {c d : Call} → begins v c ≡ begins w d → (v ≡ w) × (c ≡ d)
 one_begin e = (cc, cc)
@@ -58,58 +59,34 @@ none_finish e = cc
 one_some_finish : {f g : Finish} → Some f ≡ Some g → f ≡ g
 one_some_finish e = cc
 
-is_open_at : (o : Option ℕ) (b : ℕ) → is_open o b ≡ true → o ≡ Some b
-is_open_at None b e = absurd cc
-is_open_at (Some a) b e = ap (λ z. Some z) (eqb-true a b e)
-
 -- a begin and an answer that are seen, whatever the pages show
 sight_begins : (p : ℕ → Graph) (q : Request) (y : Reply) (w : ℕ) (c : Call) → sight_of p q y ≡ begins w c → (x : Begin) × (q ≡ request.Begin x) × (y ≡ reply.Done) × (x.worker ≡ w)
 sight_begins p (request.Begin x) reply.Done w c e = (x, refl, refl, (one_begin e).0)
-sight_begins p (request.Begin x) reply.Running w c e = absurd (not_neither e)
-sight_begins p (request.Begin x) (reply.Answered a) w c e = absurd (not_neither e)
-sight_begins p (request.Begin x) (reply.Refused a) w c e = absurd (not_neither e)
-sight_begins p (request.Turn v) reply.Done w c e = absurd (not_neither e)
-sight_begins p (request.Turn v) reply.Running w c e = absurd (not_neither e)
 sight_begins p (request.Turn v) (reply.Answered a) w c e = absurd (no_begin e)
-sight_begins p (request.Turn v) (reply.Refused a) w c e = absurd (not_neither e)
+sight_begins p q y w c e = absurd (not_neither e)
 
 sight_as : (p o : ℕ → Graph) (q : Request) (y : Reply) (w : ℕ) (c : Call) → sight_of p q y ≡ begins w c → sight_of o q y ≡ begins w c
 sight_as p o (request.Begin x) reply.Done w c e = e
-sight_as p o (request.Begin x) reply.Running w c e = e
-sight_as p o (request.Begin x) (reply.Answered a) w c e = e
-sight_as p o (request.Begin x) (reply.Refused a) w c e = e
-sight_as p o (request.Turn v) reply.Done w c e = e
-sight_as p o (request.Turn v) reply.Running w c e = e
 sight_as p o (request.Turn v) (reply.Answered a) w c e = absurd (no_begin e)
-sight_as p o (request.Turn v) (reply.Refused a) w c e = e
+sight_as p o q y w c e = absurd (not_neither e)
 
 sight_finishes : (p : ℕ → Graph) (q : Request) (y : Reply) (w : ℕ) (a : Answer) (g : Graph) → sight_of p q y ≡ finishes w a g → (q ≡ request.Turn w) × (y ≡ reply.Answered a)
 sight_finishes p (request.Begin x) reply.Done w a g e = absurd (not_finish e)
-sight_finishes p (request.Begin x) reply.Running w a g e = absurd (never_finish e)
-sight_finishes p (request.Begin x) (reply.Answered b) w a g e = absurd (never_finish e)
-sight_finishes p (request.Begin x) (reply.Refused b) w a g e = absurd (never_finish e)
-sight_finishes p (request.Turn v) reply.Done w a g e = absurd (never_finish e)
-sight_finishes p (request.Turn v) reply.Running w a g e = absurd (never_finish e)
 sight_finishes p (request.Turn v) (reply.Answered b) w a g e = let z = one_finish e in (ap request.Turn z.0, ap reply.Answered z.1)
-sight_finishes p (request.Turn v) (reply.Refused b) w a g e = absurd (never_finish e)
+sight_finishes p q y w a g e = absurd (never_finish e)
 
 open_as : (p o : ℕ → Graph) (q : Request) (y : Reply) (k w : ℕ) (before : Option ℕ) → open_after (sight_of p q y) k w before ≡ open_after (sight_of o q y) k w before
 open_as p o (request.Begin x) reply.Done k w before = refl
-open_as p o (request.Begin x) reply.Running k w before = refl
-open_as p o (request.Begin x) (reply.Answered a) k w before = refl
-open_as p o (request.Begin x) (reply.Refused a) k w before = refl
-open_as p o (request.Turn v) reply.Done k w before = refl
-open_as p o (request.Turn v) reply.Running k w before = refl
 open_as p o (request.Turn v) (reply.Answered a) k w before = refl
-open_as p o (request.Turn v) (reply.Refused a) k w before = refl
+open_as p o q y k w before = refl
 
-begun_as_sight : (s : Sight) (c : Call) → call_begun s ≡ Some c → (w : ℕ) × (s ≡ begins w c)
+begun_as_sight : (s : CallSight) (c : Call) → call_begun s ≡ Some c → (w : ℕ) × (s ≡ begins w c)
 begun_as_sight (begins w d) c e = (w, ap (begins w) (one_some_call e))
 begun_as_sight (finishes w a p) c e = absurd (none_call e)
 begun_as_sight neither c e = absurd (none_call e)
 
-module _ (R : Run) (pages : ℕ → ℕ → Graph) where
-  abbrev pub seen_so : ℕ → Sight
+module _ (R : RunInTime) (pages : ℕ → ℕ → Graph) where
+  abbrev pub seen_so : ℕ → CallSight
   seen_so k = sight_of (pages k) (R.request k) (reply_of (R.state k) (R.request k))
 
   -- workers have the same calls open
@@ -142,15 +119,15 @@ module _ (R : Run) (pages : ℕ → ℕ → Graph) where
 
       by : (w : ℕ) (a : Answer) (p : Graph) → seen_so k ≡ finishes w a p → (t : Bool) → is_open (open_call seen_so k w) b ≡ t → cond t (Some (record { time = k; answer = a; page = p })) (finish_by seen_so k b) ≡ Some f →
           (finish_by seen_so k b ≡ Some f → FinishGiven k b f) → FinishGiven (suc k) b f
-      by w a p q true y h before = subst (FinishGiven (suc k) b) (one_some_finish h) (here w a p q (is_open_at (open_call seen_so k w) b y))
+      by w a p q true y h before = subst (FinishGiven (suc k) b) (one_some_finish h) (here w a p q (is_open_true (open_call seen_so k w) b y))
       by w a p q false y h before = later k b f (before h)
 
-      go : (s : Sight) → seen_so k ≡ s → finish_after (open_call seen_so k) s k b (finish_by seen_so k b) ≡ Some f → (finish_by seen_so k b ≡ Some f → FinishGiven k b f) → FinishGiven (suc k) b f
+      go : (s : CallSight) → seen_so k ≡ s → finish_after (open_call seen_so k) s k b (finish_by seen_so k b) ≡ Some f → (finish_by seen_so k b ≡ Some f → FinishGiven k b f) → FinishGiven (suc k) b f
       go (begins w c) q h before = later k b f (before h)
       go neither q h before = later k b f (before h)
       go (finishes w a p) q h before = by w a p q (is_open (open_call seen_so k w) b) refl h before
 
-  module _ (sound : RunsSound) (keep : RunsKeepLaws) (stamps : RunsStamp) (know : RunsKnow) (laws : SeenLaws R) (pasts : PastsSeen) (now : ℕ) (stamp raise : ℕ → Option ℕ) (lower_end : ℕ → Bool) where
+  module _ (laws : SeenLaws R) (now : ℕ) (stamp raise : ℕ → Option ℕ) (lower_end : ℕ → Bool) where
     abbrev h : Past
     h = past_of seen_so now stamp raise lower_end
 
@@ -161,13 +138,13 @@ module _ (R : Run) (pages : ℕ → ℕ → Graph) where
     from_seen b w c e = sight_as (page_graph (R.state (suc b))) (pages b) (R.request b) (reply_of (R.state b) (R.request b)) w c e
 
     begun_seen : (k w b : ℕ) (c : Call) → b < k → seen_so b ≡ begins w c → BegunBy R k w b c
-    begun_seen k w b c l e = go (case_at sound keep stamps R b)
+    begun_seen k w b c l e = go (case_at R b)
       where
         x : (x : Begin) × (R.request b ≡ request.Begin x) × (reply_of (R.state b) (R.request b) ≡ reply.Done) × (x.worker ≡ w)
         x = sight_begins (pages b) (R.request b) (reply_of (R.state b) (R.request b)) w c e
 
         go : StepCase (R.state b) (R.request b) (R.state (suc b)) → BegunBy R k w b c
-        go (rests y f q) = let z : reply.Refused y ≡ reply.Done = sym f ∙ x.2 in absurd cc
+        go (rests f q) = absurd (false≢true (sym f ∙ ap₂ acts x.1 x.2))
         go (moves v q n f t) = let z : request.Begin x.0 ≡ request.Turn v = sym x.1 ∙ q in absurd cc
         go (starts v d q t f s) =
             let z : request.Begin x.0 ≡ request.Begin v = sym x.1 ∙ q in
@@ -182,7 +159,7 @@ module _ (R : Run) (pages : ℕ → ℕ → Graph) where
     told_call b w c l e = go (finish_by seen_so now b) refl
       where
         waits : finish_by seen_so now b ≡ None → (open_call seen_so now w ≡ Some b) ⊎ IsSome (finish_by seen_so now b) → CallTold R now h b c
-        waits q (inl o) = let y = begun_seen now w b c l e in unfinished w q (worker_of sound keep stamps know R now w b c y) (sym (open_same now w) ∙ o) y
+        waits q (inl o) = let y = begun_seen now w b c l e in unfinished w q (worker_of R now w b c y) (sym (open_same now w) ∙ o) y
         waits q (inr s) = let z : IsSome {T = Finish} None = subst IsSome q s in absurd cc
 
         go : (o : Option Finish) → finish_by seen_so now b ≡ o → CallTold R now h b c
@@ -203,11 +180,11 @@ module _ (R : Run) (pages : ℕ → ℕ → Graph) where
         told b c e true q = let y = begun_as_sight (seen_so b) c (rw q at e) in told_call b y.0 c (ltb-true b now q) y.1
         told b c e false q = absurd (none_call (rw q at e))
 
-pub pasts_tell : RunsSound → RunsKeepLaws → RunsStamp → RunsKnow → RunsSeen → PastsSeen → PastsTell
-pasts_tell sound keep stamps know laws pasts R now pages stamp raise lower_end = calls_told R pages sound keep stamps know (laws R) pasts now stamp raise lower_end
+pub pasts_tell : PastsTell
+pasts_tell R now pages stamp raise lower_end = calls_told R pages (laws R) now stamp raise lower_end
 
-pub turns_raise : RunsKnow → TurnsRaise
-turns_raise know R p w b v t o k j c begun = go ((know R).workers p w t.within)
+pub turns_raise : TurnsRaise
+turns_raise R p w b v t o k j c begun = go ((know R).workers p w t.within)
   where
     go : WorkerKnows R p w → c ≡ call.Survey v
     go (free e i) = absurd (none_some (sym e ∙ o))

@@ -1,6 +1,6 @@
 -- What is used of a run: the turn that answers, keys of calls, and rows.
-use Rattle.std.proofs.Common.{◌≡◌, ℕ, zero, suc, ◌<◌, ◌≤◌, Bool, true, false, cond, eqb, nat_lt, ◌==◌, Some, None, Ok, Option, sym, refl, ap, ◌∙◌, subst, ⊎_elim, arith}
-use Rattle.std.proofs.lemmas.Bool.{cases_lt, le-leb, lt-leb, ltb-true, ne_eqb, and_parts}
+use Rattle.std.proofs.Common.{◌≡◌, ℕ, zero, suc, ◌<◌, ◌≤◌, Bool, true, false, cond, eqb, nat_lt, ◌==◌, Some, None, Ok, Option, sym, refl, ap, ap₂, ◌∙◌, subst, ⊎_elim, arith}
+use Rattle.std.proofs.lemmas.Bool.{cases_lt, le-leb, lt-leb, ltb-true, ne_eqb, and_parts, false≢true}
 use Rattle.codes.specs.declared.answer.Answer.{Answer}
 use Rattle.codes.specs.declared.refusal.Refusal.TheVariants.{NoSuchCall, KeyOutside, WeightOutside}
 use Rattle.layout.specs.declared.names.Kind.{Kind}
@@ -23,45 +23,47 @@ use Rattle.places.specs.Marks.{pending}
 use Rattle.places.specs.Moved.{Next as next}
 use Rattle.places.specs.Rules.{end_done}
 use Rattle.places.specs.Touches.{head_kind, change_head, change_kind}
-use Rattle.stepper.specs.declared.request.Request.TheVariants as request
-use Rattle.stepper.specs.declared.request.Reply.TheVariants as reply
-use Rattle.stepper.specs.States.{State}
-use Rattle.stepper.specs.Turns.{worker_at, hand_at, next_at, answer_at, turned}
-use Rattle.stepper.specs.Workers.{followed}
-use Rattle.stepper.specs.Requests.{turn_refused, answered_or, reply_of}
-use Rattle.stepper.specs.History.{Traces}
+use Rattle.machine.specs.declared.request.Request.TheVariants as request
+use Rattle.machine.specs.declared.request.Reply.TheVariants as reply
+use Rattle.machine.specs.States.{State}
+use Rattle.machine.specs.Turns.{worker_at, hand_at, next_at, answer_at, turned}
+use Rattle.machine.specs.Workers.{followed}
+use Rattle.machine.specs.Requests.{turn_refused, answered_or, reply_of}
 use Rattle.laws.specs.Laws.{TurnLaws}
 use Rattle.laws.specs.Fits.{FitChange, FitPlace, Linked, RowOrNone}
 use Rattle.laws.specs.Changes.{number_in, next_own, Changes, Changes.keeps as held, Changes.ticks, Changes.links as heads_on, Changes.stamps as puts, Changes.ends as del_waits, Changes.fills, Changes.writes}
-use Rattle.laws.specs.Sound.{RunsSound, RunsKeepLaws}
-use Rattle.laws.specs.Stamps.{RunsStamp}
-use Rattle.order.specs.Marks.{Marks, Sound}
+use Rattle.order.specs.Marks.{Marks, MarksSound}
 use Rattle.order.proofs.Seen.{Began, GoesOn, open_step, open_began, one_worker}
-use Rattle.runs.specs.Runs.{Run, history_at}
+use Rattle.runs.specs.Runs.{RunInTime, history_at}
 use Rattle.runs.specs.Views.{clock_at, head_at, place_at, LinkedAt}
 use Rattle.runs.specs.Seen.{seen, open_at}
-use Rattle.runs.specs.Steps.{RunsStep}
-use Rattle.runs.specs.Times.{RunsLast}
 use Rattle.runs.specs.Purposes.{InCall}
 use Rattle.runs.specs.Known.{LinkEvent, EndEvent, ChangeEvent}
-use Rattle.runs.specs.Reasons.{BegunBy, WorkerKnows, WorkerKnows.free, WorkerKnows.busy, RunsKnow}
-use Rattle.runs.specs.Events.{RunsEvents}
-use Rattle.runs.specs.Marking.{time_bound, MarksTell}
-use Rattle.runs.specs.Once.{RunsChangeOnce}
-use Rattle.runs.specs.VertexFinds.{RunsFindVertices}
-use Rattle.runs.specs.EdgeFinds.{RunsFindEdges}
-use Rattle.runs.specs.EdgeMisses.{RunsMissEdges}
+use Rattle.runs.specs.Reasons.{BegunBy, WorkerKnows, WorkerKnows.free, WorkerKnows.busy}
+use Rattle.runs.specs.Marking.{time_bound, MarksTellRun}
 use Rattle.runs.proofs.Decides.{linked_or}
 use Rattle.runs.proofs.Kept.{settled_is}
-use Rattle.runs.proofs.Links.{linked_is_row}
+use Rattle.runs.proofs.Histories.{traced}
 use Rattle.runs.proofs.Opens.{answer_closes}
-use Rattle.runs.proofs.Steps.{StepCase, StepCase.keeps as rests, StepCase.begins, StepCase.turns, ok_if, begin_taken, sizes_at, sound_at, case_at, here}
+use Rattle.laws.proofs.Taken.{ok_if, begin_taken}
+use Rattle.runs.proofs.Steps.{acts, StepCase, StepCase.rests, StepCase.begins, StepCase.turns, sizes_at, sound_at, case_at, here}
 use Rattle.runs.proofs.Swaps.{mark_zero, swap_done}
-use Rattle.runs.proofs.Turns.{next_is, change_named, LinkTurn, LinkTurn.spent, LinkTurn.lost, LinkTurn.won, link_turn}
+use Rattle.runs.proofs.Turns.{next_is, LinkTurn, LinkTurn.spent, LinkTurn.lost, LinkTurn.won, link_turn}
 use Rattle.keys.specs.Standing.{OfRows}
 use Rattle.keys.proofs.Laws.{KeysIn, RunLaws}
 use Rattle.keys.proofs.Base.{same_some, none_some}
-use Rattle.keys.proofs.Answers.{one_call, same_call}
+use Rattle.keys.proofs.Answers.{same_call}
+use Rattle.laws.proofs.Runs.{runs_keep_laws as keep}
+use Rattle.runs.proofs.Knows.{runs_know as know}
+use Rattle.runs.proofs.Times.{runs_last as last}
+use Rattle.runs.proofs.Ends.{runs_events as events}
+use Rattle.runs.proofs.Once.{runs_change_once as once}
+use Rattle.runs.proofs.VertexFinds.{runs_find_vertices as vertices}
+use Rattle.runs.proofs.EdgeFinds.{runs_find_edges as edges}
+use Rattle.runs.proofs.EdgeMisses.{runs_miss_edges as misses}
+use Rattle.laws.proofs.Owned.{linked_row}
+use Rattle.laws.proofs.Heads.{change_named}
+use Rattle.runs.proofs.Sights.{one_call_of}
 
 -- the keys of the call that a begin names
 module _ (n : ℕ) (b : Begin) (fit : keys_fit n b ≡ true) where
@@ -92,28 +94,22 @@ called_keys n b c e =
     let known = ok_if (between 1 b.call 8) _ NoSuchCall c e in
     let keys = ok_if (keys_fit n b) _ KeyOutside c known.1 in
     let weight = ok_if (weight_fits b) _ WeightOutside c keys.1 in
-    subst (KeysIn n) (one_call (call_named b) c weight.1) (named_keys n b keys.0)
-
--- the requests before a time lead to the state at it
-traced : (R : Run) (k : ℕ) → Traces (R.state 0) (history_at R k) (R.state k)
-unfolding history_at
-traced R zero = refl
-traced R (suc k) = (R.state k, traced R k, refl, R.next k)
+    subst (KeysIn n) (one_call_of (call_named b) c weight.1) (named_keys n b keys.0)
 
 answer_one : {x y : Answer} → reply.Answered x ≡ reply.Answered y → x ≡ y
 answer_one e = cc
 
-module _ (sound : RunsSound) (keep : RunsKeepLaws) (stamps : RunsStamp) (know : RunsKnow) (R : Run) where
+module _ (R : RunInTime) where
   keys_of : (k w b : ℕ) (c : Call) → BegunBy R k w b c → KeysIn R.sizes.keys c
-  keys_of k w b c h = called_keys R.sizes.keys h.begin c (subst (λ (z : Sizes). call_of z.keys h.begin ≡ Ok c) (sizes_at sound keep stamps R b) (begin_taken (R.state b) h.begin c h.call).call)
+  keys_of k w b c h = called_keys R.sizes.keys h.begin c (subst (λ (z : Sizes). call_of z.keys h.begin ≡ Ok c) (sizes_at R b) (begin_taken (R.state b) h.begin c h.call).call)
 
   pub worker_of : (k w b : ℕ) (c : Call) → BegunBy R k w b c → w < R.sizes.workers
-  worker_of k w b c h = subst (λ v. v < R.sizes.workers) h.worker (subst (λ (z : Sizes). h.begin.worker < z.workers) (sizes_at sound keep stamps R b) (begin_taken (R.state b) h.begin c h.call).within)
+  worker_of k w b c h = subst (λ v. v < R.sizes.workers) h.worker (subst (λ (z : Sizes). h.begin.worker < z.workers) (sizes_at R b) (begin_taken (R.state b) h.begin c h.call).within)
 
   row_of : (k : ℕ) (c : Kind) (r : ℕ) → LinkedAt R k c r → (0 < r) × (r ≤ rows_all R.sizes c)
   row_of k c r l =
-      let y = linked_is_row (R.state k) c r l in
-      let e : rows_all (R.state k).sizes c ≡ rows_all R.sizes c = ap (λ (z : Sizes). rows_all z c) (sizes_at sound keep stamps R k) in
+      let y = linked_row (R.state k) c r l in
+      let e : rows_all (R.state k).sizes c ≡ rows_all R.sizes c = ap (λ (z : Sizes). rows_all z c) (sizes_at R k) in
       (omega (arith, y.0), omega (arith, y.1))
 
   -- a turn that answers
@@ -131,10 +127,10 @@ module _ (sound : RunsSound) (keep : RunsKeepLaws) (stamps : RunsStamp) (know : 
     given (Some y) e = ap (λ z. Some z) (answer_one e)
 
     taken : Taken
-    taken = go (case_at sound keep stamps R a)
+    taken = go (case_at R a)
       where
         go : StepCase s (R.request a) (R.state (suc a)) → Taken
-        go (rests y f e) = let z : reply.Refused y ≡ reply.Answered x = sym f ∙ ap (reply_of s) asked ∙ answer in absurd cc
+        go (rests f e) = absurd (false≢true (sym f ∙ ap₂ acts asked (ap (reply_of s) asked ∙ answer)))
         go (begins v c q t f e) = let z : request.Begin v ≡ request.Turn w = sym q ∙ asked in absurd cc
         go (turns v q n f e) =
             let z : request.Turn v ≡ request.Turn w = sym q ∙ asked in
@@ -146,7 +142,7 @@ module _ (sound : RunsSound) (keep : RunsKeepLaws) (stamps : RunsStamp) (know : 
             }
 
     laws_here : TurnLaws s w
-    laws_here = keep (R.state 0) R.clean (history_at R a) (R.state a) (traced R a) w (here sound keep stamps R a w asked taken.free taken.next)
+    laws_here = keep (R.state 0) R.clean (history_at R a) (R.state a) (traced R a) w (here R a w asked taken.free taken.next)
 
     -- the clock stays
     clock_stays : (c : Call) → BegunBy R a w b c → OfRows c → clock_at R (suc a) ≤ clock_at R a
@@ -185,27 +181,27 @@ module _ (sound : RunsSound) (keep : RunsKeepLaws) (stamps : RunsStamp) (know : 
         at : place_at R a w ≡ place.End d r
         at = ap (place_at R a) (sym same) ∙ ev.turn.place
 
-        says : next_at s w ≡ next.Out (end_done (eqb (number_in s (cell.Stamp (change_kind d) Del r)) 0) d r)
-        says = next_is s w (place.End d r) at ∙ ap (λ v. next.Out (end_done v d r)) (swap_done s w (sound_at sound keep stamps R a) (cell.Stamp (change_kind d) Del r) 0 pending (linked_is_row s (change_kind d) r ev.linked))
+        says : next_at s w ≡ next.Moved (end_done (eqb (number_in s (cell.Stamp (change_kind d) Del r)) 0) d r)
+        says = next_is s w (place.End d r) at ∙ ap (λ v. next.Moved (end_done v d r)) (swap_done s w (sound_at R a) (cell.Stamp (change_kind d) Del r) 0 pending (linked_row s (change_kind d) r ev.linked))
 
         go : (v : Bool) → eqb (number_in s (cell.Stamp (change_kind d) Del r)) 0 ≡ v → ⊥
-        go true v = let z : None ≡ Some x = sym (ap (λ y. (followed s.sizes.keys (worker_at s w) (hand_at s w) y).answer) (says ∙ ap (λ y. next.Out (end_done y d r)) v)) ∙ taken.gives in absurd cc
+        go true v = let z : None ≡ Some x = sym (ap (λ y. (followed s.sizes.keys (worker_at s w) (hand_at s w) y).answer) (says ∙ ap (λ y. next.Moved (end_done y d r)) v)) ∙ taken.gives in absurd cc
         go false v = mark_zero _ v ev.before
 
     no_link : (d : Change) (r : ℕ) → LinkEvent R a b d r → ⊥
-    no_link d r ev = go (link_turn s w (sound_at sound keep stamps R a) within d (head_at R a (change_head d)) at)
+    no_link d r ev = go (link_turn s w (sound_at R a) within d (head_at R a (change_head d)) at)
       where
         same : ev.step.worker ≡ w
         same = let z : request.Turn ev.step.worker ≡ request.Turn w = sym ev.step.turn.asked ∙ asked in cc
 
         within : w < s.sizes.workers
-        within = here sound keep stamps R a w asked taken.free taken.next
+        within = here R a w asked taken.free taken.next
 
         at : place_at R a w ≡ place.Link d (head_at R a (change_head d))
         at = ap (place_at R a) (sym same) ∙ ev.step.turn.place
 
         fits : FitChange s d
-        fits = let f : FitPlace s (place.Link d (head_at R a (change_head d))) = subst (FitPlace s) at ((sound_at sound keep stamps R a).places w within) in f.0
+        fits = let f : FitPlace s (place.Link d (head_at R a (change_head d))) = subst (FitPlace s) at ((sound_at R a).places w within) in f.0
 
         -- no row was left, so no head moved
         not_spent : next_own s w (change_kind d) ≡ None → ⊥
@@ -230,11 +226,11 @@ module _ (sound : RunsSound) (keep : RunsKeepLaws) (stamps : RunsStamp) (know : 
             stays : number_in (turned s w) (cell.Head (change_head d)) ≡ number_in s (cell.Head (change_head d)) → ⊥
             stays e =
                 let q : number_in s (cell.Head (change_head d)) ≡ r = sym e ∙ ap (λ u. number_in u (cell.Head (change_head d))) (sym taken.next) ∙ ev.step.head in
-                let pos = (linked_is_row (R.state (suc a)) (change_kind d) r ev.step.linked).0 in
-                was (subst (λ c. RowOrNone s c r) (kind d) (subst (RowOrNone s (head_kind (change_head d))) q ((sound_at sound keep stamps R a).heads (change_head d) (change_named s d fits))))
+                let pos = (linked_row (R.state (suc a)) (change_kind d) r ev.step.linked).0 in
+                was (subst (λ c. RowOrNone s c r) (kind d) (subst (RowOrNone s (head_kind (change_head d))) q ((sound_at R a).heads (change_head d) (change_named s d fits))))
               where
                 was : RowOrNone s (change_kind d) r → ⊥
-                was h = ⊎_elim (λ (z : r ≡ 0). let pos = (linked_is_row (R.state (suc a)) (change_kind d) r ev.step.linked).0 in omega arith) (λ (l : Linked s (change_kind d) r). ev.step.fresh l) h
+                was h = ⊎_elim (λ (z : r ≡ 0). let pos = (linked_row (R.state (suc a)) (change_kind d) r ev.step.linked).0 in omega arith) (λ (l : Linked s (change_kind d) r). ev.step.fresh l) h
 
         go : LinkTurn s w d (head_at R a (change_head d)) → ⊥
         go (spent y z) = not_spent y
@@ -274,8 +270,8 @@ module _ (sound : RunsSound) (keep : RunsKeepLaws) (stamps : RunsStamp) (know : 
         turn Ins ev = (ev.step.worker, ev.whose)
         turn Del ev = (ev.worker, ev.whose)
 
-pub run_laws : RunsSound → RunsKeepLaws → RunsStamp → RunsStep → RunsLast → RunsKnow → RunsEvents → RunsChangeOnce → RunsFindVertices → RunsFindEdges → RunsMissEdges → (R : Run) (N : ℕ) (m : Marks) → MarksTell R N m → Sound (time_bound N) (clock_at R N) m → RunLaws R N m
-run_laws sound keep stamps step last know events once vertices edges misses R N m tell ok = record {
+pub run_laws : (R : RunInTime) (N : ℕ) (m : Marks) → MarksTellRun R N m → MarksSound (time_bound N) (clock_at R N) m → RunLaws R N m
+run_laws R N m tell ok = record {
   last = last R;
   know = know R;
   events = events R;
@@ -285,10 +281,10 @@ run_laws sound keep stamps step last know events once vertices edges misses R N 
   vertices = vertices R N m tell ok;
   edges = edges R N m tell ok;
   misses = misses R N m tell ok;
-  row = row_of sound keep stamps know R;
-  linked_or = linked_or sound keep stamps step last know R N;
-  keys = keys_of sound keep stamps know R;
-  worker = worker_of sound keep stamps know R;
-  still = λ a w b c x asked answer whose. clock_stays sound keep stamps know R a w b x asked answer whose c;
-  over = λ a w b x asked answer whose. change_early sound keep stamps know R a w b x asked answer whose;
+  row = row_of R;
+  linked_or = linked_or R N;
+  keys = keys_of R;
+  worker = worker_of R;
+  still = λ a w b c x asked answer whose. clock_stays R a w b x asked answer whose c;
+  over = λ a w b x asked answer whose. change_early R a w b x asked answer whose;
 }

@@ -9,28 +9,28 @@ use Rattle.places.specs.declared.place.Change.TheVariants as change
 use Rattle.places.specs.declared.place.Call.{Call}
 use Rattle.places.specs.declared.place.Call.TheVariants as call
 use Rattle.places.specs.Touches.{change_kind}
-use Rattle.stepper.specs.declared.request.Request.TheVariants.{Turn}
-use Rattle.stepper.specs.declared.request.Reply.TheVariants.{Answered}
-use Rattle.stepper.specs.Requests.{reply_of}
+use Rattle.machine.specs.declared.request.Request.TheVariants.{Turn}
+use Rattle.machine.specs.declared.request.Reply.TheVariants.{Answered}
+use Rattle.machine.specs.Requests.{reply_of}
 use Rattle.order.specs.Graph.{Feed, asks}
 use Rattle.order.specs.Past.{fed_until}
 use Rattle.order.specs.Keys.{Key, Bounded, Fits}
-use Rattle.order.specs.Marks.{Mark, Marks, Sound, change_key, edge_effect, edge_key}
+use Rattle.order.specs.Marks.{Mark, Marks, MarksSound, change_key, edge_effect, edge_key}
 use Rattle.order.specs.Finds.{RowChange, no_change, vertex_born, vertex_ends, edge_born, edge_ends, makes_change, Finds}
-use Rattle.runs.specs.Runs.{Run}
+use Rattle.runs.specs.Runs.{RunInTime}
 use Rattle.runs.specs.Views.{clock_at, mark_at}
 use Rattle.runs.specs.Seen.{open_at}
-use Rattle.runs.specs.Times.{Past}
+use Rattle.runs.specs.Times.{Before}
 use Rattle.runs.specs.Known.{TurnOf, ChangeEvent}
 use Rattle.runs.specs.Reasons.{BegunBy}
-use Rattle.runs.specs.Marking.{time_bound, MarksTell}
+use Rattle.runs.specs.Marking.{time_bound, MarksTellRun}
 
 -- a call on vertices or edges
 abbrev pub OfRows : Call → Type 0
 OfRows (call.Survey v) = ⊥
 OfRows c = Unit {0}
 
-module _ (R : Run) (now : ℕ) where
+module _ (R : RunInTime) (now : ℕ) where
   -- whose a key is: its time is that of a turn of the call; or its third part is, where a change has gone back before the end of a vertex; or it is right
   -- after a change, and its third part names the call
   pub data Owner (k : Key) (b : ℕ) : Type 0 where
@@ -44,7 +44,7 @@ module _ (R : Run) (now : ℕ) where
     pub field : Field
     pub change : Change
     pub row : ℕ
-    pub made : Past now (λ p. ChangeEvent R field p b change row)
+    pub made : Before now (λ p. ChangeEvent R field p b change row)
     pub bears : mark_at R now (change_kind change) field row ≡ Stamp n
 
   module _ (m : Marks) where
@@ -83,12 +83,12 @@ module _ (R : Run) (now : ℕ) where
 
 -- every call on vertices or edges that was answered has a key at which it finds its answer
 abbrev pub AnswersStand : Type 0
-AnswersStand = (R : Run) (now : ℕ) (m : Marks) → MarksTell R now m → Sound (time_bound now) (clock_at R now) m → (a w b : ℕ) (c : Call) (x : Answer) →
+AnswersStand = (R : RunInTime) (now : ℕ) (m : Marks) → MarksTellRun R now m → MarksSound (time_bound now) (clock_at R now) m → (a w b : ℕ) (c : Call) (x : Answer) →
     a < now → R.request a ≡ Turn w → reply_of (R.state a) (Turn w) ≡ Answered x → open_at R a w ≡ Some b → BegunBy R a w b c → OfRows c →
     Placing R now m b a (fed_until c x) x
 
 -- so has every unfinished one whose change bears its stamp
 abbrev pub ChangesStand : Type 0
-ChangesStand = (R : Run) (now : ℕ) (m : Marks) → MarksTell R now m → Sound (time_bound now) (clock_at R now) m → (w b : ℕ) (c : Call) (n : ℕ) →
+ChangesStand = (R : RunInTime) (now : ℕ) (m : Marks) → MarksTellRun R now m → MarksSound (time_bound now) (clock_at R now) m → (w b : ℕ) (c : Call) (n : ℕ) →
     w < R.sizes.workers → open_at R now w ≡ Some b → BegunBy R now w b c → StampedBy R now b n →
     (x : Answer) × Placing R now m b now (asks c) x

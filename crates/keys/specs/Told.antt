@@ -13,13 +13,13 @@ use Rattle.places.specs.declared.place.Call.TheVariants as call
 use Rattle.places.specs.declared.place.Survey.{Survey}
 use Rattle.places.specs.declared.place.Place.TheVariants.{Raise}
 use Rattle.places.specs.Touches.{change_kind}
-use Rattle.stepper.specs.declared.request.Request.TheVariants.{Turn}
-use Rattle.stepper.specs.declared.request.Reply.TheVariants.{Answered}
-use Rattle.stepper.specs.Requests.{reply_of}
+use Rattle.machine.specs.declared.request.Request.TheVariants.{Turn}
+use Rattle.machine.specs.declared.request.Reply.TheVariants.{Answered}
+use Rattle.machine.specs.Requests.{reply_of}
 use Rattle.questions.specs.Graph.{Graph}
-use Rattle.order.specs.Past.{Finish, Past as Calls}
+use Rattle.order.specs.Past.{Finish, Past}
 use Rattle.order.specs.Seen.{past_of}
-use Rattle.runs.specs.Runs.{Run}
+use Rattle.runs.specs.Runs.{RunInTime}
 use Rattle.runs.specs.Views.{number_at, mark_at}
 use Rattle.runs.specs.Seen.{sight_of, open_at}
 use Rattle.runs.specs.Steps.{TurnAt}
@@ -27,7 +27,7 @@ use Rattle.runs.specs.Known.{ChangeEvent}
 use Rattle.runs.specs.Reasons.{BegunBy}
 use Rattle.keys.specs.Standing.{StampedBy}
 
-module _ (R : Run) (now : ℕ) where
+module _ (R : RunInTime) (now : ℕ) where
   -- vertex row r ended with a stamp below x
   pub record EndsBelow (r x : ℕ) : Type 0 where
     pub number : ℕ
@@ -38,7 +38,7 @@ module _ (R : Run) (now : ℕ) where
   abbrev pub LowerEnd : ℕ → ℕ → Type 0
   LowerEnd e x = EndsBelow (number_at R now (cell.Source e)) x ⊎ EndsBelow (number_at R now (cell.Target e)) x
 
-  module _ (h : Calls) where
+  module _ (h : Past) where
     -- the call c that began at b was answered before now, or its worker has it open
     pub data CallTold (b : ℕ) (c : Call) : Type 0 where
       answered : (w : ℕ) (f : Finish) → h.finish b ≡ Some f → f.time < now → R.request f.time ≡ Turn w → reply_of (R.state f.time) (Turn w) ≡ Answered f.answer →
@@ -62,24 +62,20 @@ module _ (R : Run) (now : ℕ) where
       pub ends_none : (f : Field) (p b : ℕ) (d : Bound) (e x : ℕ) → p < now → ChangeEvent R f p b (change.Edge d) e → mark_at R now Edge f e ≡ Stamp x → lower_end b ≡ false → ¬ (LowerEnd e x)
 
 -- only snapshots and reaches raised the clock
-abbrev pub RaisesTold : Calls → Type 0
+abbrev pub RaisesTold : Past → Type 0
 RaisesTold h = (b t : ℕ) (c : Call) → h.begun b ≡ Some c → h.raise b ≡ Some t → (v : Survey) × (c ≡ call.Survey v)
 
 -- the past h tells the run up to now
-pub record PastTold (R : Run) (now : ℕ) (h : Calls) : Type 0 where
+pub record PastTold (R : RunInTime) (now : ℕ) (h : Past) : Type 0 where
   pub calls : CallsTold R now h
   pub changes : ChangesTold R now h.stamp h.lower_end
   pub raises : RaisesTold h
 
 -- a past that is made of what is seen, with pages read in any way, tells the calls
 abbrev pub PastsTell : Type 0
-PastsTell = (R : Run) (now : ℕ) (pages : ℕ → ℕ → Graph) (stamp raise : ℕ → Option ℕ) (lower_end : ℕ → Bool) →
+PastsTell = (R : RunInTime) (now : ℕ) (pages : ℕ → ℕ → Graph) (stamp raise : ℕ → Option ℕ) (lower_end : ℕ → Bool) →
     CallsTold R now (past_of (λ k. sight_of (pages k) (R.request k) (reply_of (R.state k) (R.request k))) now stamp raise lower_end)
 
 -- a call that had a turn at the place of a raise is a snapshot or reach
 abbrev pub TurnsRaise : Type 0
-TurnsRaise = (R : Run) (p w b : ℕ) (v : Survey) → TurnAt R p w (Raise v) → open_at R p w ≡ Some b → (k j : ℕ) (c : Call) → BegunBy R k j b c → c ≡ call.Survey v
-
--- every run has stamps and lower ends that are those of its changes
-abbrev pub ChangesCanTell : Type 0
-ChangesCanTell = (R : Run) (now : ℕ) → (stamp : ℕ → Option ℕ) × (lower_end : ℕ → Bool) × ChangesTold R now stamp lower_end
+TurnsRaise = (R : RunInTime) (p w b : ℕ) (v : Survey) → TurnAt R p w (Raise v) → open_at R p w ≡ Some b → (k j : ℕ) (c : Call) → BegunBy R k j b c → c ≡ call.Survey v

@@ -1,31 +1,24 @@
 -- A begin keeps what every run keeps.
-use Rattle.std.proofs.Common.{rules, ◌≡◌, ℕ, ◌<◌, Bool, true, false, cond, ltb, Ok, Err, Result, sym, refl, subst, arith}
+use Rattle.std.proofs.Common.{rules, ◌≡◌, ℕ, ◌<◌, true, Ok, sym, refl, subst, arith}
 use Rattle.std.proofs.lemmas.List.{length-set}
 use Rattle.std.proofs.lemmas.Bool.{ltb-true, and_parts}
-use Rattle.codes.specs.declared.refusal.Refusal.{Refusal}
-use Rattle.codes.specs.declared.refusal.Refusal.TheVariants.{NoSuchWorker, WorkerBusy, NoSuchCall, KeyOutside, WeightOutside}
+use Rattle.codes.specs.declared.refusal.Refusal.TheVariants.{NoSuchCall, KeyOutside, WeightOutside}
 use Rattle.layout.specs.declared.names.Kind.{Kind}
 use Rattle.layout.specs.Limits.{between}
 use Rattle.places.specs.declared.call.Begin.{Begin}
 use Rattle.places.specs.declared.place.Call.{Call}
-use Rattle.places.specs.declared.place.Call.TheVariants as call
 use Rattle.places.specs.Calls.{keys_fit, weight_fits, call_named, call_of, place_first}
-use Rattle.stepper.specs.declared.worker.PageState.{PageState}
-use Rattle.stepper.specs.declared.worker.PageState.TheVariants as page
-use Rattle.stepper.specs.declared.worker.Worker.{Worker}
-use Rattle.stepper.specs.States.{State}
-use Rattle.stepper.specs.Turns.{worker_at}
-use Rattle.stepper.specs.Workers.{nobody, linked_of}
-use Rattle.stepper.specs.Requests.{is_idle, page_free, begun_as, begun, state_begun}
+use Rattle.machine.specs.declared.worker.Worker.{Worker}
+use Rattle.machine.specs.States.{State}
+use Rattle.machine.specs.Turns.{worker_at}
+use Rattle.machine.specs.Workers.{nobody, linked_of}
+use Rattle.machine.specs.Requests.{call_to_begin, begun, state_begun}
 use Rattle.laws.specs.Fits.{Counted, FitPlace}
 use Rattle.laws.specs.Sound.{Sound}
 use Rattle.laws.proofs.Puts.{set_each}
 use Rattle.laws.proofs.Grows.{Later, row_later, place_later}
 use Rattle.laws.proofs.Served.{QueueFits}
-
-ok_if : {X E : Type 0} (t : Bool) (r : Result X E) (e : E) (x : X) → cond t r (Err e) ≡ Ok x → (t ≡ true) × (r ≡ Ok x)
-ok_if true r e x h = (refl, h)
-ok_if false r e x h = absurd cc
+use Rattle.laws.proofs.Taken.{ok_if, begin_taken}
 
 -- a call that is accepted names keys of the opening
 module _ (s : State) (b : Begin) where
@@ -43,17 +36,10 @@ module _ (s : State) (b : Begin) where
       let g : call_named b ≡ c = cc in
       subst (λ q. FitPlace s (place_first q)) g (named_fits keys.0)
 
-  free_same : (p : PageState) (r : Result Call Refusal) (c : Call) → page_free p r ≡ Ok c → r ≡ Ok c
-  free_same page.Out (Ok (call.Survey v)) c e = absurd cc
-  free_same p r c e = e
+  accepted : (c : Call) → call_to_begin s b ≡ Ok c → (b.worker < s.sizes.workers) × FitPlace s (place_first c)
+  accepted c e = let t = begin_taken s b c e in (t.within, called c t.call)
 
-  accepted : (c : Call) → begun_as s b ≡ Ok c → (b.worker < s.sizes.workers) × FitPlace s (place_first c)
-  accepted c e =
-      let there = ok_if (ltb b.worker s.sizes.workers) _ NoSuchWorker c e in
-      let idle = ok_if (is_idle (worker_at s b.worker).place) _ WorkerBusy c there.1 in
-      (ltb-true b.worker s.sizes.workers there.0, called c (free_same (worker_at s b.worker).page (call_of n b) c idle.1))
-
-  module _ (z : Sound s) (c : Call) (e : begun_as s b ≡ Ok c) where
+  module _ (z : Sound s) (c : Call) (e : call_to_begin s b ≡ Ok c) where
     abbrev w : ℕ
     w = b.worker
 
@@ -74,7 +60,7 @@ module _ (s : State) (b : Begin) where
     later_begun = record { sizes = refl; linked = λ k r l. l; some = λ h m p. p }
 
     still_counted : (k : Kind) (r : ℕ) → Counted s k r → Counted t k r
-    still_counted k r l = record { owner = l.owner; place = l.place; before = subst (λ m. l.place < m) (sym (count_same l.owner k)) l.before; is = l.is }
+    still_counted k r l = record { owner = l.owner; nth = l.nth; before = subst (λ m. l.nth < m) (sym (count_same l.owner k)) l.before; is = l.is }
 
     pub begin_sound : Sound t
     begin_sound = record {

@@ -13,9 +13,9 @@ use Rattle.layout.proofs.Regions.{index_lt}
 use Rattle.layout.proofs.Owners.{own_row}
 use Rattle.places.specs.declared.place.Place.TheVariants as place
 use Rattle.places.specs.Touches.{head_kind}
-use Rattle.stepper.specs.States.{State}
-use Rattle.stepper.specs.Opening.{cleared, opened_state}
-use Rattle.stepper.specs.Workers.{fresh, nobody}
+use Rattle.machine.specs.States.{State}
+use Rattle.machine.specs.Opening.{cleared, opened_state}
+use Rattle.machine.specs.Workers.{fresh, nobody}
 use Rattle.laws.specs.Fits.{Linked, InChain.at_head, InChain.below, Counted, RowOrNone}
 use Rattle.laws.specs.Changes.{number_in}
 use Rattle.laws.specs.Clean.{head_in, Stands, Clean, OpeningsClean}
@@ -46,7 +46,7 @@ module _ (s : State) (c : Clean s) where
 
   pub clean_heads : (h : Head) → Named s.sizes (cell.Head h) → RowOrNone s (head_kind h) (number_in s (cell.Head h))
   clean_heads h n = ⊎_elim (λ (z : head_in s h ≡ 0). inl z)
-      (λ (x : Stands s h). inr (at_head h (head_in s h) n refl refl (own_row s.sizes (head_kind h) x.counted.owner x.counted.place (head_in s h) x.counted.is).0))
+      (λ (x : Stands s h). inr (at_head h (head_in s h) n refl refl (own_row s.sizes (head_kind h) x.counted.owner x.counted.nth (head_in s h) x.counted.is).0))
       (c.heads h n)
 
   pub clean_olders : (k : Kind) (r : ℕ) → Linked s k r → RowOrNone s k (number_in s (cell.Older k r))

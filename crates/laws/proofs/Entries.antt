@@ -1,7 +1,7 @@
 -- What a turn of a place that fits enters into the page has keys of the opening.
 use Rattle.std.proofs.Common.{rules, ℕ, Option, subst}
 use Rattle.places.specs.declared.place.Survey.{Survey}
-use Rattle.places.specs.declared.place.Leg.{Leg}
+use Rattle.places.specs.declared.place.ServedPair.{ServedPair}
 use Rattle.places.specs.declared.place.Job.{Job}
 use Rattle.places.specs.declared.place.Job.TheVariants as job
 use Rattle.places.specs.declared.place.Walk.{Walk}
@@ -14,10 +14,10 @@ use Rattle.places.specs.Nexts.{next_of}
 use Rattle.books.specs.declared.book.Book.{Book}
 use Rattle.books.specs.Books.{with_row}
 use Rattle.books.specs.Walked.{resolved, walked_at}
-use Rattle.stepper.specs.declared.worker.Worker.{Worker}
-use Rattle.stepper.specs.States.{State}
-use Rattle.stepper.specs.Workers.{followed}
-use Rattle.laws.specs.Fits.{FitLeg, FitJob, FitPlace}
+use Rattle.machine.specs.declared.worker.Worker.{Worker}
+use Rattle.machine.specs.States.{State}
+use Rattle.machine.specs.Workers.{followed}
+use Rattle.laws.specs.Fits.{FitServedPair, FitJob, FitPlace}
 use Rattle.laws.proofs.Follows.{AtWalk, Follows, follows}
 use Rattle.laws.proofs.Pages.{FitEntry}
 
@@ -28,7 +28,7 @@ place_job s (place.WalkHead j) k f a = subst (λ u. FitJob s u.job) a f
 place_job s (place.WalkOlder j r) k f a = subst (λ u. FitJob s u.job) a f.0
 place_job s p k f a = absurd a
 
-resolved_entry : (s : State) (b : Book) (v : Survey) (n : ℕ) (l : Leg) (h : Hand) → FitLeg s l → FitEntry s.sizes (resolved b v n l h).entry
+resolved_entry : (s : State) (b : Book) (v : Survey) (n : ℕ) (l : ServedPair) (h : Hand) → FitServedPair s l → FitEntry s.sizes (resolved b v n l h).entry
 resolved_entry s b v n l h f = search rules
 
 walked_at_entry : (s : State) (b : Book) (v : Survey) (k : Job) (n r : ℕ) (h : Hand) → FitJob s k → FitEntry s.sizes (walked_at b v k n r h).entry

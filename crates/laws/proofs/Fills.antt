@@ -1,6 +1,5 @@
 -- A row that is filled for a link: which cells change, and what they then hold.
-use Rattle.std.proofs.Common.{rules, ◌≡◌, ℕ, List, sym, refl, subst, subst₂, arith}
-use Rattle.std.proofs.lemmas.List.{get_or-set_same}
+use Rattle.std.proofs.Common.{rules, ◌≡◌, ℕ, List, sym, refl, subst, subst₂}
 use Rattle.layout.specs.declared.sizes.Sizes.{Sizes}
 use Rattle.layout.specs.declared.names.Kind.{Kind}
 use Rattle.layout.specs.declared.names.Kind.TheVariants.{Edge}
@@ -9,17 +8,16 @@ use Rattle.layout.specs.declared.names.Field.TheVariants.{Ins, Del}
 use Rattle.layout.specs.declared.names.Head.{Head}
 use Rattle.layout.specs.declared.names.Cell.{Cell}
 use Rattle.layout.specs.declared.names.Cell.TheVariants as cell
-use Rattle.layout.specs.Layout.{index_of, Named, IsRow}
-use Rattle.layout.proofs.Regions.{index_lt}
+use Rattle.layout.specs.Layout.{Named, IsRow}
 use Rattle.places.specs.declared.place.Change.{Change}
 use Rattle.places.specs.declared.place.Change.TheVariants as change
 use Rattle.places.specs.Marks.{pending}
 use Rattle.places.specs.Touches.{change_kind}
-use Rattle.stepper.specs.Effects.{put, bound, filled}
-use Rattle.stepper.specs.Turns.{cell_at}
+use Rattle.machine.specs.Effects.{put, bound, filled}
+use Rattle.machine.specs.Turns.{cell_at}
 use Rattle.laws.specs.Changes.{OfRow, FilledWith}
 use Rattle.laws.specs.Stamps.{field_start}
-use Rattle.laws.proofs.Puts.{Enough, enough_set, put_at}
+use Rattle.laws.proofs.Puts.{Enough, enough_set, put_at, put_same}
 
 -- the cells by which edge row r is bound
 abbrev IsBound : ℕ → Cell → Type 0
@@ -74,9 +72,6 @@ module _ (z : Sizes) (cs : List ℕ) (d : Change) (h r : ℕ) (n : IsRow z (chan
   enough_three : Enough z three
   enough_three = enough_set z two _ 0 enough_two
 
-  put_same : (xs : List ℕ) (c : Cell) (v : ℕ) → Named z c → Enough z xs → cell_at z (put z xs c v) c ≡ v
-  put_same xs c v m e = get_or-set_same xs (index_of z c) v 0 (omega (arith, index_lt z c m))
-
   -- a cell of another row stays
   pub fill_at : (P : ℕ → Type 0) (c : Cell) → Named z c → (OfRow (change_kind d) r c → (y : ℕ) → P y) → P (cell_at z cs c) → P (cell_at z (filled z cs d h r) c)
   fill_at P c m here there =
@@ -96,7 +91,7 @@ module _ (z : Sizes) (cs : List ℕ) (d : Change) (h r : ℕ) (n : IsRow z (chan
       bound_at z P three d r (cell.Older k r) n n enough_three (λ e b y. absurd b)
       (put_at z P two (cell.Stamp k Del r) (cell.Older k r) 0 n n enough_two (λ e. absurd cc)
       (put_at z P one (cell.Stamp k Ins r) (cell.Older k r) pending n n enough_one (λ e. absurd cc)
-      (put_same cs (cell.Older k r) h n l)))
+      (put_same z cs (cell.Older k r) h n l)))
 
   -- ins is pending, del is 0
   pub stamp_filled : (f : Field) → cell_at z (filled z cs d h r) (cell.Stamp (change_kind d) f r) ≡ field_start f
@@ -104,8 +99,8 @@ module _ (z : Sizes) (cs : List ℕ) (d : Change) (h r : ℕ) (n : IsRow z (chan
       let P : ℕ → Type 0 = λ v. v ≡ pending in
       bound_at z P three d r (cell.Stamp k Ins r) n n enough_three (λ e b y. absurd b)
       (put_at z P two (cell.Stamp k Del r) (cell.Stamp k Ins r) 0 n n enough_two (λ e. absurd cc)
-      (put_same one (cell.Stamp k Ins r) pending n enough_one))
-  stamp_filled Del = bound_at z (λ v. v ≡ 0) three d r (cell.Stamp k Del r) n n enough_three (λ e b y. absurd b) (put_same two (cell.Stamp k Del r) 0 n enough_two)
+      (put_same z one (cell.Stamp k Ins r) pending n enough_one))
+  stamp_filled Del = bound_at z (λ v. v ≡ 0) three d r (cell.Stamp k Del r) n n enough_three (λ e b y. absurd b) (put_same z two (cell.Stamp k Del r) 0 n enough_two)
 
   pub filled_with : (c : Cell) → OfRow (change_kind d) r c → FilledWith c (cell_at z (filled z cs d h r) c)
   filled_with (cell.Stamp j Del q) (e, f) = subst₂ (λ j q. cell_at z (filled z cs d h r) (cell.Stamp j Del q) ≡ 0) (sym e) (sym f) (stamp_filled Del)

@@ -31,7 +31,7 @@ pub record LinkTurn (p : Place) (h : Hand) (c : Change) (r : ℕ) : Type 0 where
   pub spare : h.spare ≡ Some r
 
 abbrev pub Follows : Place → Hand → Next → Type 0
-Follows p h (next.Out o) = Unit {0}
+Follows p h (next.Moved o) = Unit {0}
 Follows p h (next.Linked c r) = LinkTurn p h c r
 Follows p h (next.Raised v t) = p ≡ place.Raise v
 Follows p h (next.Walked k r) = AtWalk p k
@@ -41,7 +41,7 @@ follows_ins p h k r m a = search rules
 
 follows_settled : (st : Stage) (q : Purpose) (h : Hand) (m : Mark) → Follows (place.Settle st q) h (settled q h m)
 follows_settled st (purpose.Look Ins l r) h m = tt
-follows_settled st (purpose.Again Source o b f) h m = tt
+follows_settled st (purpose.CheckAgain Source o b f) h m = tt
 follows_settled st (purpose.Compare Source b f e x) h m = tt
 follows_settled st (purpose.Walk Ins k r) h m = follows_ins (place.Settle st (purpose.Walk Ins k r)) h k r m refl
 follows_settled st (purpose.Walk Del k r) h m = refl
@@ -61,7 +61,7 @@ follows (place.Head l) h g = search rules
 follows (place.Settle stage.First q) h g = search (rules, follows_settled)
 follows (place.Settle stage.Clock q) h g = tt
 follows (place.Settle (stage.Swap n) q) h g = tt
-follows (place.Settle stage.Again q) h g = follows_settled stage.Again q h _
+follows (place.Settle stage.Reread q) h g = follows_settled stage.Reread q h _
 follows (place.Link c o) h g = follows_link c o h h.spare _ refl
 follows (place.Raise v) h g = follows_raise v h g
 follows (place.WalkHead k) h g = search rules

@@ -15,7 +15,7 @@ use Rattle.places.specs.declared.place.Change.{Change}
 use Rattle.places.specs.declared.place.Change.TheVariants as change
 use Rattle.places.specs.declared.place.Survey.{Survey}
 use Rattle.places.specs.declared.place.Survey.TheVariants.{Snapshot, Reach}
-use Rattle.places.specs.declared.place.Leg.{Leg}
+use Rattle.places.specs.declared.place.ServedPair.{ServedPair}
 use Rattle.places.specs.declared.place.Job.{Job}
 use Rattle.places.specs.declared.place.Job.TheVariants as job
 use Rattle.places.specs.declared.place.Purpose.{Purpose}
@@ -23,8 +23,8 @@ use Rattle.places.specs.declared.place.Purpose.TheVariants as purpose
 use Rattle.places.specs.declared.place.Place.{Place}
 use Rattle.places.specs.declared.place.Place.TheVariants as place
 use Rattle.places.specs.Touches.{head_kind, look_head, change_head}
-use Rattle.stepper.specs.States.{State}
-use Rattle.laws.specs.Fits.{Linked, IsKey, Held, RowOrNone, HeldOrNone, FitPair, FitBound, pair_head, FitLook, FitChange, FitFound, FitSurvey, FitLeg, FitJob, FitPurpose, FitPlace}
+use Rattle.machine.specs.States.{State}
+use Rattle.laws.specs.Fits.{Linked, IsKey, Held, RowOrNone, HeldOrNone, FitPair, FitBound, pair_head, FitLook, FitChange, FitFound, FitSurvey, FitServedPair, FitJob, FitPurpose, FitPlace}
 use Rattle.laws.specs.Changes.{number_in}
 use Rattle.laws.proofs.Heads.{look_named, change_named}
 
@@ -76,22 +76,22 @@ module _ (s t : State) (l : Later s t) where
   survey_later Snapshot f = tt
   survey_later (Reach i) f = key_later i f
 
-  leg_later : (l : Leg) → FitLeg s l → FitLeg t l
-  leg_later l f = (key_later l.from f.0, key_later l.to f.1)
+  served_pair_later : (l : ServedPair) → FitServedPair s l → FitServedPair t l
+  served_pair_later l f = (key_later l.from f.0, key_later l.to f.1)
 
   pub job_later : (j : Job) → FitJob s j → FitJob t j
   job_later (job.Key i) f = key_later i f
   job_later (job.Start i) f = key_later i f
-  job_later (job.Pair l) f = leg_later l f
-  job_later (job.Target l e) f = leg_later l f
+  job_later (job.Pair l) f = served_pair_later l f
+  job_later (job.Target l e) f = served_pair_later l f
 
   purpose_later : (p : Purpose) → FitPurpose s p → FitPurpose t p
   purpose_later (purpose.Look g k r) f = (look_later k f.0, held_later (look_head k) r (look_named s k f.0) f.1)
   purpose_later (purpose.Own g c r) f = (change_later c f.0, linked_later _ r f.1)
   purpose_later (purpose.LostDel c r) f = (change_later c f.0, held_later (change_head c) r (change_named s c f.0) f.1)
-  purpose_later (purpose.WonIns i r) f = linked_later Vertex r f
-  purpose_later (purpose.BindAgain o b) f = bound_later b f
-  purpose_later (purpose.Again d o b g) f = (bound_later b f.0, found_later b.pair g f.0.keys f.1)
+  purpose_later (purpose.WinnerIns i r) f = linked_later Vertex r f
+  purpose_later (purpose.SourceAgain o b) f = bound_later b f
+  purpose_later (purpose.CheckAgain d o b g) f = (bound_later b f.0, found_later b.pair g f.0.keys f.1)
   purpose_later (purpose.Compare d b g e x) f = bound_later b f
   purpose_later (purpose.Walk g k r) f = (job_later k.job f.0, linked_later _ r f.1)
 

@@ -8,7 +8,7 @@ use Rattle.places.specs.declared.place.Change.TheVariants as change
 use Rattle.places.specs.declared.place.Job.{Job}
 use Rattle.places.specs.declared.place.Job.TheVariants as job
 use Rattle.places.specs.Touches.{look_head, change_head, job_head}
-use Rattle.stepper.specs.States.{State}
+use Rattle.machine.specs.States.{State}
 use Rattle.laws.specs.Fits.{FitLook, FitChange, FitJob}
 
 pub look_named : (s : State) (l : Look) → FitLook s l → Named s.sizes (cell.Head (look_head l))

@@ -1,5 +1,5 @@
 -- A turn keeps what every run keeps.
-use Rattle.std.proofs.Common.{◌≡◌, ℕ, ◌<◌, ◌≤◌, false, cond, ◌⊎◌, length, Some, Option, sym, refl, ap, ◌∙◌, subst, inl, inr, ⊎_elim, arith}
+use Rattle.std.proofs.Common.{◌≡◌, ℕ, ◌+◌, ◌<◌, ◌≤◌, false, cond, ◌⊎◌, length, Some, Option, sym, refl, ap, ◌∙◌, subst, inl, inr, ⊎_elim, arith}
 use Rattle.std.proofs.Math.Nat.{pos_of_ne-zero}
 use Rattle.std.proofs.lemmas.List.{length-set, get_or-set_same}
 use Rattle.std.proofs.lemmas.Bool.{cond_both}
@@ -23,16 +23,16 @@ use Rattle.places.specs.declared.place.Place.TheVariants as place
 use Rattle.places.specs.declared.place.Survey.{Survey}
 use Rattle.places.specs.declared.place.Survey.TheVariants.{Snapshot, Reach}
 use Rattle.places.specs.Moved.{Next, Next as next}
-use Rattle.places.specs.Outs.{Out}
+use Rattle.places.specs.Flows.{Flow}
 use Rattle.places.specs.Private.{link_kind}
 use Rattle.places.specs.Touches.{head_kind, look_head, change_head, change_kind, job_head, job_kind, touch_of}
 use Rattle.places.specs.Walks.{first_job}
-use Rattle.books.specs.Walked.{Outcome, walked_at}
-use Rattle.stepper.specs.declared.worker.Worker.{Worker}
-use Rattle.stepper.specs.States.{State}
-use Rattle.stepper.specs.Effects.{got_of}
-use Rattle.stepper.specs.Turns.{worker_at, spare_for, hand_of, hand_at, touch_at, next_at, followed_at, turned}
-use Rattle.stepper.specs.Workers.{nobody, more, at, finishes, finished, linked_of, with_book, counted, arrived, followed}
+use Rattle.books.specs.Walked.{WalkOutcome, walked_at}
+use Rattle.machine.specs.declared.worker.Worker.{Worker}
+use Rattle.machine.specs.States.{State}
+use Rattle.machine.specs.Effects.{got_of}
+use Rattle.machine.specs.Turns.{worker_at, spare_for, hand_of, hand_at, touch_at, next_at, followed_at, turned}
+use Rattle.machine.specs.Workers.{nobody, at, finishes, finished, linked_of, with_book, counted, arrived, followed}
 use Rattle.laws.specs.Fits.{Linked, InChain.at_head, InChain.below, Counted, RowOrNone, HeldOrNone, FitChange, FitSurvey, FitJob, FitPurpose, FitPlace, Fit}
 use Rattle.laws.specs.Changes.{next_own, number_in, Changes}
 use Rattle.laws.specs.Sound.{Sound}
@@ -43,7 +43,7 @@ use Rattle.laws.proofs.Puts.{set_each}
 use Rattle.laws.proofs.Pages.{enough_entered}
 use Rattle.laws.proofs.Touched.{enough_after}
 use Rattle.laws.proofs.Stays.{HeadMoves, head_changes, turn_changes, turn_laws}
-use Rattle.laws.proofs.Outs.{FitOut, FitsNext, HandAt, GotAt, next_of_fit}
+use Rattle.laws.proofs.Flows.{FitFlow, FitsNext, HandAt, GotAt, next_of_fit}
 use Rattle.laws.proofs.Counts.{same_kind, count_after, followed_count}
 use Rattle.laws.proofs.Follows.{LinkTurn, Follows, follows}
 use Rattle.laws.proofs.LinkTurns.{lost_differs, won_links, won_head, new_head, new_older, new_stamp}
@@ -71,13 +71,13 @@ module _ (s : State) (w : ℕ) (z : Sound s) (b : w < s.sizes.workers) where
   own_count k = followed_count s.sizes.keys own (hand_at s w) (next_at s w) k
 
   -- the turn that linked row r for change c
-  record Linking (c : Change) (r : ℕ) : Type 0 where
+  record LinkingTurn (c : Change) (r : ℕ) : Type 0 where
     pub over : ℕ
     pub at_link : own.place ≡ place.Link c over
     pub fits : FitPlace s (place.Link c over)
     pub own : next_own s w (change_kind c) ≡ Some r
 
-  linking : (c : Change) (r : ℕ) → next_at s w ≡ next.Linked c r → Linking c r
+  linking : (c : Change) (r : ℕ) → next_at s w ≡ next.Linked c r → LinkingTurn c r
   linking c r e =
       let l : LinkTurn own.place (hand_at s w) c r = subst (Follows own.place (hand_at s w)) e (follows own.place (hand_at s w) (got_of s.sizes s.cells (touch_at s w))) in
       let same : (hand_at s w).spare ≡ next_own s w (change_kind c) = ap (λ p. spare_for s.sizes w own (link_kind p)) l.place in
@@ -91,7 +91,7 @@ module _ (s : State) (w : ℕ) (z : Sound s) (b : w < s.sizes.workers) where
   count_grows k (next.Linked c r) e =
       grows (change_kind c) k (linked_of own k) (λ q. subst (λ (x : Kind). linked_of own x < 2048) q (count_small (change_kind c) r (linking c r e).own))
     where
-      grows : (c k : Kind) (n : ℕ) → (c ≡ k → n < 2048) → n ≤ cond (same_kind c k) (more n) n
+      grows : (c k : Kind) (n : ℕ) → (c ≡ k → n < 2048) → n ≤ cond (same_kind c k) (n + 1) n
       grows Vertex Vertex n h = let q = h refl in omega arith
       grows Edge Edge n h = let q = h refl in omega arith
       grows c k n h = omega arith
@@ -173,18 +173,18 @@ module _ (s : State) (w : ℕ) (z : Sound s) (b : w < s.sizes.workers) where
   new_counted c r e =
       let n : ℕ = linked_of own (change_kind c) in
       let q = (linking c r e).own in
-      let same : linked_of (worker_at t w) (change_kind c) ≡ cond (same_kind (change_kind c) (change_kind c)) (more n) n =
+      let same : linked_of (worker_at t w) (change_kind c) ≡ cond (same_kind (change_kind c) (change_kind c)) (n + 1) n =
       ap (λ v. linked_of v (change_kind c)) (get_or-set_same s.workers w (followed_at s w).worker nobody in_table) ∙ own_count (change_kind c) ∙ ap (λ x. count_after x (change_kind c) n) e in
-      record { owner = w; place = n; before = subst (λ m. n < m) (sym same) (one_more (change_kind c) n (count_small (change_kind c) r q)); is = q }
+      record { owner = w; nth = n; before = subst (λ m. n < m) (sym same) (one_more (change_kind c) n (count_small (change_kind c) r q)); is = q }
     where
-      one_more : (k : Kind) (n : ℕ) → n < 2048 → n < cond (same_kind k k) (more n) n
+      one_more : (k : Kind) (n : ℕ) → n < 2048 → n < cond (same_kind k k) (n + 1) n
       one_more Vertex n h = omega arith
       one_more Edge n h = omega arith
 
   keys_some : 0 < s.sizes.keys
   keys_some = omega arith
 
-  out_later : (o : Out) → FitOut s o → FitOut t o
+  out_later : (o : Flow) → FitFlow s o → FitFlow t o
   out_later (Continue p) f = place_later s t later p f
   out_later (Break a) f = tt
 
@@ -193,7 +193,7 @@ module _ (s : State) (w : ℕ) (z : Sound s) (b : w < s.sizes.workers) where
     pub place : FitPlace t v.place
     pub queue : QueueFits s.sizes.keys v.book
 
-  arrived_ready : (v : Worker) (o : Out) → FitOut t o → QueueFits s.sizes.keys v.book → Ready (arrived v o)
+  arrived_ready : (v : Worker) (o : Flow) → FitFlow t o → QueueFits s.sizes.keys v.book → Ready (arrived v o)
   arrived_ready v (Continue p) f q = record { place = f; queue = q }
   arrived_ready v (Break a) f q = cond_both (finishes a) (finished v) (at v place.Idle) Ready (λ _. record { place = tt; queue = q }) (λ _. record { place = tt; queue = q })
 
@@ -205,7 +205,7 @@ module _ (s : State) (w : ℕ) (z : Sound s) (b : w < s.sizes.workers) where
   own_queue i = z.queues w i b
 
   followed_ready : (x : Next) → next_at s w ≡ x → FitsNext s x → Ready (followed s.sizes.keys own (hand_at s w) x).worker
-  followed_ready (next.Out o) e f = arrived_ready own o (out_later o f) own_queue
+  followed_ready (next.Moved o) e f = arrived_ready own o (out_later o f) own_queue
   followed_ready (next.Linked c r) e f = record { place = (change_later s t later c f, new_linked c r e); queue = queue_counted (change_kind c) }
     where
       queue_counted : (k : Kind) → QueueFits s.sizes.keys (counted own k).book
@@ -213,7 +213,7 @@ module _ (s : State) (w : ℕ) (z : Sound s) (b : w < s.sizes.workers) where
       queue_counted Edge = own_queue
   followed_ready (next.Raised v n) e f = record { place = first_fits v f; queue = blank_queue s.sizes.keys n keys_some }
   followed_ready (next.Walked k r) e f =
-      let o : Outcome = walked_at own.book k.survey k.job s.sizes.keys r (hand_at s w) in
+      let o : WalkOutcome = walked_at own.book k.survey k.job s.sizes.keys r (hand_at s w) in
       let g = walked_at_good s keys_some own.book k.survey k.job r (hand_at s w) own_queue f in
       arrived_ready (with_book own o.book) o.out (out_later o.out g.out) g.queue
 
@@ -255,7 +255,7 @@ module _ (s : State) (w : ℕ) (z : Sound s) (b : w < s.sizes.workers) where
   counts v k = record_each (λ u r. linked_of (worker_at s u) k ≤ linked_of r k) (subst (λ n. linked_of own k ≤ n) (sym (own_count k)) (count_grows k (next_at s w) refl)) (λ u. omega arith) v
 
   counted_later : (k : Kind) (r : ℕ) → Counted s k r → Counted t k r
-  counted_later k r x = record { owner = x.owner; place = x.place; before = omega (arith, counts x.owner k, x.before); is = x.is }
+  counted_later k r x = record { owner = x.owner; nth = x.nth; before = omega (arith, counts x.owner k, x.before); is = x.is }
 
   -- linked rows are counted
   counted_sound : (k : Kind) (r : ℕ) → Linked t k r → Counted t k r

@@ -1,23 +1,25 @@
 pub mod Puts
 pub mod Pages
 mod Follows
-mod Entries
+pub mod Entries
 pub mod Owned
 pub mod Heads
 pub mod Fills
 pub mod Touched
-mod Stays
-mod Outs
-mod Served
+pub mod Stays
+mod Flows
+pub mod Served
 mod Grows
 mod Counts
 mod LinkTurns
 mod Keeps
+pub mod Taken
+pub mod Rests
 mod Begins
 mod Steps
 pub mod Clean
-mod Runs
+pub mod Runs
 mod Places
 mod Stamped
 mod Moments
-mod StampRuns
+pub mod StampRuns

@@ -2,7 +2,6 @@
 use Rattle.std.proofs.Common.{◌≡◌, ℕ, ◌<◌, Bool, true, false, eqb, List, length, Some, None, Option, sym, refl, ap, ◌∙◌, arith}
 use Rattle.std.proofs.lemmas.Bool.{eq-eqb, eqb-true, lt-ltb, both_ways}
 use Rattle.std.proofs.lemmas.List.{get_or-set_same}
-use Rattle.std.specs.Bool.{then_some}
 use Rattle.std.specs.Option.{is_some}
 use Rattle.layout.specs.declared.sizes.Sizes.{Sizes}
 use Rattle.layout.specs.declared.names.Field.{Field}
@@ -18,15 +17,15 @@ use Rattle.places.specs.Moved.{Next, Next as next}
 use Rattle.places.specs.Private.{link_kind}
 use Rattle.places.specs.Touches.{change_head, change_kind, link_touch, touch_of}
 use Rattle.places.specs.Nexts.{link_done as next_link, next_of}
-use Rattle.stepper.specs.States.{State}
-use Rattle.stepper.specs.Effects.{put, filled, link_done, got_of, cells_after, entered}
-use Rattle.stepper.specs.Turns.{worker_at, cell_at, spare_for, hand_of, next_at, turned}
-use Rattle.stepper.specs.Workers.{followed}
+use Rattle.machine.specs.States.{State}
+use Rattle.machine.specs.Effects.{put, filled, link_done, got_of, cells_after, entered}
+use Rattle.machine.specs.Turns.{worker_at, cell_at, spare_for, hand_of, next_at, turned}
+use Rattle.machine.specs.Workers.{followed}
 use Rattle.laws.specs.Fits.{FitChange}
 use Rattle.laws.specs.Changes.{next_own, number_in}
 use Rattle.laws.specs.Stamps.{field_start}
 use Rattle.laws.proofs.Heads.{change_named}
-use Rattle.laws.proofs.Puts.{Enough, swap_at}
+use Rattle.laws.proofs.Puts.{Enough, swap_at, done_is}
 use Rattle.laws.proofs.Owned.{next_own_lem}
 use Rattle.laws.proofs.Fills.{head_filled, enough_filled, older_filled, stamp_filled}
 
@@ -53,10 +52,6 @@ module _ (s : State) (w : ℕ) (d : Change) (h : ℕ) (l : Enough s.sizes s.cell
       let i : index_of z top < length c' = omega (arith, index_lt z top n) in
       let same : cell_at z c' top ≡ number_in s top = head_filled z s.cells d h r row l (change_head d) n in
       rw (lt-ltb (index_of z top) (length c') i, same) refl
-
-  done_is : (b : Bool) (x : ℕ) → is_some (then_some b x) ≡ b
-  done_is true x = refl
-  done_is false x = refl
 
   -- what a link turn touches is the worker's next row
   abbrev got_from : Option ℕ → Option ℕ

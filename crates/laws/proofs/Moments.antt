@@ -16,21 +16,22 @@ use Rattle.places.specs.declared.place.Place.TheVariants as place
 use Rattle.places.specs.Calls.{place_first}
 use Rattle.places.specs.Marks.{pending}
 use Rattle.places.specs.Touches.{settled_field}
-use Rattle.stepper.specs.States.{State}
-use Rattle.stepper.specs.Turns.{worker_at, turned}
-use Rattle.stepper.specs.Requests.{begun_as, state_begun}
-use Rattle.stepper.specs.History.{Event, Traces}
-use Rattle.stepper.proofs.Stages.{Staged}
+use Rattle.machine.specs.States.{State}
+use Rattle.machine.specs.Turns.{worker_at, turned}
+use Rattle.machine.specs.Requests.{call_to_begin, state_begun}
+use Rattle.machine.specs.History.{Event, Traces}
+use Rattle.machine.proofs.Stages.{Staged}
 use Rattle.laws.specs.Fits.{Linked, FitPlace, FitPurpose}
 use Rattle.laws.specs.Changes.{number_in}
 use Rattle.laws.specs.Sound.{Sound}
 use Rattle.laws.specs.Clean.{IsStamp, Clean}
 use Rattle.laws.specs.Stamps.{Moves, Moves.same, Moves.ended, Moves.settled, Moment}
 use Rattle.laws.proofs.Touched.{Settled, settled_field_lem}
+use Rattle.laws.proofs.Rests.{Rests}
 use Rattle.laws.proofs.Steps.{step_each, run_each}
 use Rattle.laws.proofs.Runs.{runs_sound}
 use Rattle.laws.proofs.Places.{got_at, number_at, turn_places, begin_places}
-use Rattle.laws.proofs.Stamped.{Stamped, turn_moves, runs_stamped}
+use Rattle.laws.proofs.Stamped.{StampsHold, turn_moves, runs_stamped}
 
 -- pending or a stamp
 abbrev Begun : Sizes → ℕ → Type 0
@@ -100,7 +101,7 @@ abbrev AllKnown : State → List Event → State → Type 0
 AllKnown start h s = (w : ℕ) → w < s.sizes.workers → Known start h s (worker_at s w).place
 
 -- a turn: who reads the clock knows this moment
-module _ (start : State) (e : Event) (h : List Event) (s : State) (tr : Traces start h s) (w : ℕ) (z : Sound s) (b : w < s.sizes.workers) (i : Stamped s) (k : AllKnown start h s) where
+module _ (start : State) (e : Event) (h : List Event) (s : State) (tr : Traces start h s) (w : ℕ) (z : Sound s) (b : w < s.sizes.workers) (i : StampsHold s) (k : AllKnown start h s) where
   turn_moved : Moved s (turned s w)
   turn_moved = record { sizes = refl; moves = turn_moves s w z b i }
 
@@ -118,7 +119,7 @@ module _ (start : State) (e : Event) (h : List Event) (s : State) (tr : Traces s
   turn_known : AllKnown start (e ∷ h) (turned s w)
   turn_known = turn_places s w z b (Known start (e ∷ h) (turned s w)) tt own_known (λ v l. known_later start e h s (turned s w) turn_moved (worker_at s v).place (z.places v l) (k v l))
 
--- a begin or a refusal changes no cell
+-- a request that gives no turn changes no cell
 first_known : (start : State) (h : List Event) (s : State) (c : Call) → Known start h s (place_first c)
 first_known start h s (call.Survey v) = tt
 first_known start h s c = tt
@@ -130,7 +131,12 @@ module _ (start : State) (e : Event) (h : List Event) (s : State) (z : Sound s) 
       kept_number : (j : Kind) (f : Field) (r : ℕ) → number_in t (cell.Stamp j f r) ≡ number_in s (cell.Stamp j f r)
       kept_number j f r = cc
 
-  begin_known : (b : Begin) (c : Call) → begun_as s b ≡ Ok c → AllKnown start (e ∷ h) (state_begun s b.worker (Ok c))
+  rest_known : (t : State) → Rests s t → AllKnown start (e ∷ h) t
+  rest_known t r w b =
+      subst (Known start (e ∷ h) t) (sym (r.workers w).place)
+      (kept_known t r.rows.sizes r.rows.cells w (subst (λ (y : Sizes). w < y.workers) r.rows.sizes b))
+
+  begin_known : (b : Begin) (c : Call) → call_to_begin s b ≡ Ok c → AllKnown start (e ∷ h) (state_begun s b.worker (Ok c))
   begin_known b c a =
       let t : State = state_begun s b.worker (Ok c) in
       begin_places s b z c a (Known start (e ∷ h) t) (first_known start (e ∷ h) t c) (kept_known t refl refl)
@@ -142,7 +148,7 @@ module _ (start : State) (c : Clean start) where
       (λ e h s t a.
       let k = runs_sound start c h s t in
       let i = runs_stamped start c h s t in
-      step_each s (AllKnown start (e ∷ h)) (kept_known start e h s k a s refl refl) (begin_known start e h s k a) (λ w b. turn_known start e h s t w k b i a) e.request)
+      step_each s (AllKnown start (e ∷ h)) (rest_known start e h s k a) (begin_known start e h s k a) (λ w b. turn_known start e h s t w k b i a) e.request)
 
   swap_source : (h : List Event) (s : State) (n : ℕ) (p : Purpose) → Known start h s (place.Settle (stage.Swap n) p) → number_in s (settled_field p) ≡ pending → Moment start h (settled_field p) n
   swap_source h s n p (inl i) e = absurd (omega arith)

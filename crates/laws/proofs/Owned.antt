@@ -7,9 +7,9 @@ use Rattle.layout.specs.declared.sizes.Sizes.{Sizes}
 use Rattle.layout.specs.Layout.{IsRow}
 use Rattle.layout.specs.Rows.{rows_each, row_at, Owns}
 use Rattle.layout.proofs.Owners.{own_row, one_owner}
-use Rattle.stepper.specs.States.{State}
-use Rattle.stepper.specs.Turns.{worker_at}
-use Rattle.stepper.specs.Workers.{linked_of}
+use Rattle.machine.specs.States.{State}
+use Rattle.machine.specs.Turns.{worker_at}
+use Rattle.machine.specs.Workers.{linked_of}
 use Rattle.laws.specs.Fits.{Linked, InChain.at_head, InChain.below, Counted}
 use Rattle.laws.specs.Changes.{next_own}
 
@@ -38,9 +38,9 @@ next_own_lem s w k r e = own_row s.sizes k w (linked_of (worker_at s w) k) r e
 pub next_unused : (s : State) (w : ℕ) (k : Kind) (r : ℕ) → next_own s w k ≡ Some r → Counted s k r → ⊥
 next_unused s w k r e l =
     let z = s.sizes in
-    let a = own_row z k l.owner l.place r l.is in
+    let a = own_row z k l.owner l.nth r l.is in
     let o : l.owner ≡ w = one_owner z k l.owner w r a.1 (next_own_lem s w k r e).1 in
-    let p : l.owner * rows_each z k + l.place + 1 ≡ r = row_is z k l.owner l.place r l.is in
+    let p : l.owner * rows_each z k + l.nth + 1 ≡ r = row_is z k l.owner l.nth r l.is in
     let q : w * rows_each z k + linked_of (worker_at s w) k + 1 ≡ r = row_is z k w (linked_of (worker_at s w) k) r e in
     let m : l.owner * rows_each z k ≡ w * rows_each z k = ap (λ v. v * rows_each z k) o in
     let b : linked_of (worker_at s l.owner) k ≡ linked_of (worker_at s w) k = ap (λ v. linked_of (worker_at s v) k) o in

@@ -9,8 +9,8 @@ use Rattle.layout.specs.Layout.{index_of, Named, page_start, page_size}
 use Rattle.layout.proofs.Inverse.{same_name}
 use Rattle.books.specs.declared.walked.Entry.{Entry}
 use Rattle.books.specs.declared.walked.Entry.TheVariants as entry
-use Rattle.stepper.specs.Effects.{put, zeroed, entered}
-use Rattle.stepper.specs.Turns.{cell_at}
+use Rattle.machine.specs.Effects.{put, zeroed, entered}
+use Rattle.machine.specs.Turns.{cell_at}
 use Rattle.laws.specs.Changes.{OnPage}
 use Rattle.laws.proofs.Puts.{Enough, enough_set, set_at_index, put_at}
 

@@ -9,11 +9,11 @@ use Rattle.places.specs.Calls.{place_first}
 use Rattle.places.specs.Nexts.{number_of}
 use Rattle.places.specs.Private.{link_kind}
 use Rattle.places.specs.Touches.{touch_of}
-use Rattle.stepper.specs.Effects.{got_of}
-use Rattle.stepper.specs.States.{State}
-use Rattle.stepper.specs.Turns.{worker_at, spare_for, hand_at, touch_at, next_at, answer_at, turned}
-use Rattle.stepper.specs.Requests.{begun_as, state_begun}
-use Rattle.stepper.proofs.Stages.{Staged, StagedOr, next_staged, followed_staged}
+use Rattle.machine.specs.Effects.{got_of}
+use Rattle.machine.specs.States.{State}
+use Rattle.machine.specs.Turns.{worker_at, spare_for, hand_at, touch_at, next_at, answer_at, turned}
+use Rattle.machine.specs.Requests.{call_to_begin, state_begun}
+use Rattle.machine.proofs.Stages.{Staged, StagedOr, next_staged, followed_staged}
 use Rattle.laws.specs.Sound.{Sound}
 use Rattle.laws.proofs.Keeps.{record_each}
 use Rattle.laws.proofs.Begins.{begun_each}
@@ -37,5 +37,5 @@ turn_places s w z b P idle own others =
     go (Some a) q e = subst P (sym e) idle
 
 -- the worker's own place is the first of a call, the others stay where they were
-pub begin_places : (s : State) (b : Begin) → Sound s → (c : Call) → begun_as s b ≡ Ok c → (P : Place → Type 0) → P (place_first c) → ((v : ℕ) → v < s.sizes.workers → P (worker_at s v).place) → (v : ℕ) → v < s.sizes.workers → P (worker_at (state_begun s b.worker (Ok c)) v).place
+pub begin_places : (s : State) (b : Begin) → Sound s → (c : Call) → call_to_begin s b ≡ Ok c → (P : Place → Type 0) → P (place_first c) → ((v : ℕ) → v < s.sizes.workers → P (worker_at s v).place) → (v : ℕ) → v < s.sizes.workers → P (worker_at (state_begun s b.worker (Ok c)) v).place
 begin_places s b z c e P own others = begun_each s b z c e (λ v u. v < s.sizes.workers → P u.place) (λ _. own) others

@@ -4,7 +4,7 @@ use Rattle.std.proofs.lemmas.Nat.{mod_below}
 use Rattle.std.proofs.lemmas.List.{set_past}
 use Rattle.std.proofs.lemmas.Bool.{cases_lt, ltb-true, cond_both}
 use Rattle.places.specs.declared.place.Survey.{Survey}
-use Rattle.places.specs.declared.place.Leg.{Leg}
+use Rattle.places.specs.declared.place.ServedPair.{ServedPair}
 use Rattle.places.specs.declared.place.Job.{Job}
 use Rattle.places.specs.declared.place.Job.TheVariants as job
 use Rattle.places.specs.declared.place.Hand.{Hand}
@@ -12,11 +12,11 @@ use Rattle.books.specs.declared.book.Book.{Book}
 use Rattle.books.specs.declared.walked.Entry.{Entry}
 use Rattle.books.specs.Books.{blank, with_row, joined}
 use Rattle.books.specs.Serving.{first_open, open_from, go_on, serve_from}
-use Rattle.books.specs.Walked.{Outcome, resolved, pair_walked, walked_at}
-use Rattle.stepper.specs.States.{State}
-use Rattle.laws.specs.Fits.{IsKey, FitLeg, FitJob}
+use Rattle.books.specs.Walked.{WalkOutcome, resolved, pair_walked, walked_at}
+use Rattle.machine.specs.States.{State}
+use Rattle.laws.specs.Fits.{IsKey, FitServedPair, FitJob}
 use Rattle.laws.proofs.Puts.{set_each}
-use Rattle.laws.proofs.Outs.{FitOut}
+use Rattle.laws.proofs.Flows.{FitFlow}
 
 abbrev pub QueueFits : ℕ → Book → Type 0
 QueueFits n b = (i : ℕ) → get_or b.queue i 0 < n
@@ -52,28 +52,28 @@ module _ (s : State) (p : 0 < s.sizes.keys) where
   first_open_fit b v zero x f = tt
   first_open_fit b v (suc d) x f = let more : FitJobs (first_open b v n d (x + 1)) = first_open_fit b v d (x + 1) f in search (rules, mod_below)
 
-  go_on_fit : (v : Survey) (j : Option Job) → FitJobs j → FitOut s (go_on v j)
+  go_on_fit : (v : Survey) (j : Option Job) → FitJobs j → FitFlow s (go_on v j)
   go_on_fit v None f = tt
   go_on_fit v (Some j) f = f
 
-  serve_from_fit : (b : Book) (v : Survey) (x : ℕ) → QueueFits n b → FitOut s (serve_from b v n x)
+  serve_from_fit : (b : Book) (v : Survey) (x : ℕ) → QueueFits n b → FitFlow s (serve_from b v n x)
   serve_from_fit b v x f = go_on_fit v (open_from b v n x) (first_open_fit b v (n * b.len - x) x f)
 
   -- the book after a walk, and what follows
-  pub record Good (o : Outcome) : Type 0 where
+  pub record Good (o : WalkOutcome) : Type 0 where
     pub queue : QueueFits n o.book
-    pub out : FitOut s o.out
+    pub out : FitFlow s o.out
 
-  good_if : (t : Bool) (x y : Outcome) → Good x → Good y → Good (cond t x y)
+  good_if : (t : Bool) (x y : WalkOutcome) → Good x → Good y → Good (cond t x y)
   good_if t x y f g = cond_both t x y Good (λ _. f) (λ _. g)
 
   serves : (b : Book) (v : Survey) (x : ℕ) (e : Entry) → QueueFits n b → Good (record { book = b; out = serve_from b v n x; entry = e })
   serves b v x e f = record { queue = f; out = serve_from_fit b v x f }
 
-  resolved_good : (b : Book) (v : Survey) (l : Leg) (h : Hand) → QueueFits n b → IsKey s l.to → Good (resolved b v n l h)
+  resolved_good : (b : Book) (v : Survey) (l : ServedPair) (h : Hand) → QueueFits n b → IsKey s l.to → Good (resolved b v n l h)
   resolved_good b v l h f k = let q = joined_queue n b l.to f k in search (rules, good_if, serves)
 
-  pair_walked_good : (b : Book) (v : Survey) (l : Leg) (r : ℕ) (h : Hand) → QueueFits n b → FitLeg s l → Good (pair_walked b v n l r h)
+  pair_walked_good : (b : Book) (v : Survey) (l : ServedPair) (r : ℕ) (h : Hand) → QueueFits n b → FitServedPair s l → Good (pair_walked b v n l r h)
   pair_walked_good b v l r h f k = search (rules, good_if, serves, resolved_good)
 
   pub walked_at_good : (b : Book) (v : Survey) (k : Job) (r : ℕ) (h : Hand) → QueueFits n b → FitJob s k → Good (walked_at b v k n r h)

@@ -1,9 +1,9 @@
 -- Every run keeps the laws of stamps.
-use Rattle.std.proofs.Common.{◌≡◌, ℕ, List, refl, ⊎_elim, arith}
+use Rattle.std.proofs.Common.{◌≡◌, ℕ, List, refl, ◌∙◌, ⊎_elim, arith}
 use Rattle.layout.specs.declared.sizes.Sizes.{Sizes}
 use Rattle.places.specs.Marks.{pending}
-use Rattle.stepper.specs.States.{State}
-use Rattle.stepper.specs.History.{Event, Traces}
+use Rattle.machine.specs.States.{State}
+use Rattle.machine.specs.History.{Event, Traces}
 use Rattle.laws.specs.Fits.{Linked}
 use Rattle.laws.specs.Clean.{IsStamp}
 use Rattle.laws.specs.Stamps.{RunsStamp}
@@ -15,7 +15,7 @@ use Rattle.laws.proofs.Moments.{runs_sources}
 
 -- no request changes the sizes
 runs_sizes : (start : State) (h : List Event) (s : State) → Traces start h s → s.sizes ≡ start.sizes
-runs_sizes start = run_each start (λ h s. s.sizes ≡ start.sizes) refl (λ e h s t k. step_each s (λ u. u.sizes ≡ start.sizes) k (λ b c q. k) (λ w b. k) e.request)
+runs_sizes start = run_each start (λ h s. s.sizes ≡ start.sizes) refl (λ e h s t k. step_each s (λ u. u.sizes ≡ start.sizes) (λ u r. r.rows.sizes ∙ k) (λ b c q. k) (λ w b. k) e.request)
 
 stamp_apart : (z : Sizes) (n : ℕ) → IsStamp z n → ¬ (n ≡ 0) × ¬ (n ≡ pending)
 stamp_apart z n i = (λ e. omega arith, λ e. omega arith)

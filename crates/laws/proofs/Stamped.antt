@@ -12,11 +12,11 @@ use Rattle.places.specs.declared.place.Stage.TheVariants as stage
 use Rattle.places.specs.declared.place.Place.{Place}
 use Rattle.places.specs.declared.place.Place.TheVariants as place
 use Rattle.places.specs.Calls.{place_first}
-use Rattle.stepper.specs.States.{State}
-use Rattle.stepper.specs.Turns.{worker_at, turned}
-use Rattle.stepper.specs.Requests.{begun_as, state_begun}
-use Rattle.stepper.specs.History.{Event, Traces}
-use Rattle.stepper.proofs.Stages.{Staged}
+use Rattle.machine.specs.States.{State}
+use Rattle.machine.specs.Turns.{worker_at, turned}
+use Rattle.machine.specs.Requests.{call_to_begin, state_begun}
+use Rattle.machine.specs.History.{Event, Traces}
+use Rattle.machine.proofs.Stages.{Staged}
 use Rattle.laws.specs.Fits.{Linked}
 use Rattle.laws.specs.Changes.{number_in, Changes, Changes.keeps, Changes.ticks, Changes.links, Changes.stamps, Changes.ends, Changes.fills, Changes.writes}
 use Rattle.laws.specs.Sound.{Sound}
@@ -25,6 +25,7 @@ use Rattle.laws.specs.Stamps.{field_start, Holds, Holds.not_ended, Holds.waits, 
 use Rattle.laws.proofs.Owned.{linked_row, next_unused}
 use Rattle.laws.proofs.Stays.{turn_changes, clock_changes}
 use Rattle.laws.proofs.Keeps.{New, fit, split, new_starts}
+use Rattle.laws.proofs.Rests.{Rests, rest_each}
 use Rattle.laws.proofs.Steps.{step_each, run_each}
 use Rattle.laws.proofs.Clean.{clean_holds}
 use Rattle.laws.proofs.Runs.{runs_sound}
@@ -35,7 +36,7 @@ abbrev InHand : Sizes → Place → Type 0
 InHand z (place.Settle (stage.Swap n) p) = IsStamp z n
 InHand z p = Unit {0}
 
-pub record Stamped (s : State) : Type 0 where
+pub record StampsHold (s : State) : Type 0 where
   pub clock : IsStamp s.sizes (number_in s cell.Clock)
   pub hands : (w : ℕ) → w < s.sizes.workers → InHand s.sizes (worker_at s w).place
   pub fields : (k : Kind) (f : Field) (r : ℕ) → Linked s k r → Holds s.sizes f (number_in s (cell.Stamp k f r))
@@ -50,7 +51,7 @@ move_holds z f x y (ended e a b) h = waits b
 move_holds z f x y (settled a b) h = stamped b
 
 -- a turn
-module _ (s : State) (w : ℕ) (z : Sound s) (b : w < s.sizes.workers) (i : Stamped s) where
+module _ (s : State) (w : ℕ) (z : Sound s) (b : w < s.sizes.workers) (i : StampsHold s) where
   abbrev t : State
   t = turned s w
 
@@ -76,7 +77,7 @@ module _ (s : State) (w : ℕ) (z : Sound s) (b : w < s.sizes.workers) (i : Stam
   pub turn_moves : (k : Kind) (f : Field) (r : ℕ) → Linked s k r → Moves s.sizes f (number_in s (cell.Stamp k f r)) (number_in (turned s w) (cell.Stamp k f r))
   turn_moves k f r l = field_moves k f r _ _ l (turn_changes s w (fit s w z b) (cell.Stamp k f r) (linked_row s k r l))
 
-  turn_stamped : Stamped t
+  turn_stamped : StampsHold t
   turn_stamped = record {
     clock = clock_moves _ _ (turn_changes s w (fit s w z b) cell.Clock tt) i.clock;
     hands = turn_places s w z b (InHand s.sizes) tt own_hand i.hands;
@@ -91,22 +92,26 @@ first_hand : (z : Sizes) (c : Call) → InHand z (place_first c)
 first_hand z (call.Survey v) = tt
 first_hand z c = tt
 
-begin_stamped : (s : State) (b : Begin) → Sound s → Stamped s → (c : Call) → begun_as s b ≡ Ok c → Stamped (state_begun s b.worker (Ok c))
+begin_stamped : (s : State) (b : Begin) → Sound s → StampsHold s → (c : Call) → call_to_begin s b ≡ Ok c → StampsHold (state_begun s b.worker (Ok c))
 begin_stamped s b z i c e = record {
   clock = i.clock;
   hands = begin_places s b z c e (InHand s.sizes) (first_hand s.sizes c) i.hands;
   fields = λ k f r l. i.fields k f r l;
 }
 
+-- what rests changes no cell and no place
+rest_stamped : (s : State) → StampsHold s → (t : State) → Rests s t → StampsHold t
+rest_stamped s i t r = rest_each s t r StampsHold (record { clock = i.clock; hands = λ w b. subst (InHand s.sizes) (sym (r.workers w).place) (i.hands w b); fields = i.fields })
+
 -- a clean state
-clean_stamped : (s : State) → Clean s → Stamped s
+clean_stamped : (s : State) → Clean s → StampsHold s
 clean_stamped s c = record {
   clock = c.clock;
   hands = λ w b. subst (InHand s.sizes) (sym (c.idle w b)) tt;
   fields = clean_holds s c;
 }
 
-pub runs_stamped : (start : State) → Clean start → (h : List Event) (s : State) → Traces start h s → Stamped s
+pub runs_stamped : (start : State) → Clean start → (h : List Event) (s : State) → Traces start h s → StampsHold s
 runs_stamped start c =
-    run_each start (λ h s. Stamped s) (clean_stamped start c)
-    (λ e h s t i. let k = runs_sound start c h s t in step_each s Stamped i (λ b c q. begin_stamped s b k i c q) (λ w b. turn_stamped s w k b i) e.request)
+    run_each start (λ h s. StampsHold s) (clean_stamped start c)
+    (λ e h s t i. let k = runs_sound start c h s t in step_each s StampsHold (rest_stamped s i) (λ b c q. begin_stamped s b k i c q) (λ w b. turn_stamped s w k b i) e.request)

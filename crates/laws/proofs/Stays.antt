@@ -22,11 +22,11 @@ use Rattle.places.specs.Touches.{change_head, change_kind}
 use Rattle.layout.specs.declared.names.Head.{Head}
 use Rattle.layout.specs.declared.names.Field.{Field}
 use Rattle.layout.specs.declared.names.Field.TheVariants.{Del}
-use Rattle.stepper.specs.States.{State}
-use Rattle.stepper.specs.Effects.{got_of, cells_after, entered}
-use Rattle.stepper.specs.Turns.{worker_at, cell_at, hand_at, touch_at, next_at, followed_at, turned}
-use Rattle.stepper.specs.Workers.{nobody, followed}
-use Rattle.stepper.specs.declared.worker.Worker.{Worker}
+use Rattle.machine.specs.States.{State}
+use Rattle.machine.specs.Effects.{got_of, cells_after, entered}
+use Rattle.machine.specs.Turns.{worker_at, cell_at, hand_at, touch_at, next_at, followed_at, turned}
+use Rattle.machine.specs.Workers.{nobody, followed}
+use Rattle.machine.specs.declared.worker.Worker.{Worker}
 use Rattle.laws.specs.Fits.{Linked, FitPlace, Fit}
 use Rattle.laws.specs.Changes.{OnPage, OfRow, Surveys, next_own, number_in, Changes, Changes.keeps, Changes.ticks, Changes.links, Changes.stamps, Changes.ends, Changes.fills, Changes.writes}
 use Rattle.laws.specs.Laws.{Stays, TurnsKeepLaws}
@@ -44,7 +44,7 @@ at_survey p k a = absurd a
 
 -- only a snapshot or reach enters something into its page
 enters : (p : Place) (n : ℕ) (v : Worker) (h : Hand) (x : Next) → Follows p h x → ((followed n v h x).entry ≡ entry.Nothing) ⊎ Surveys p
-enters p n v h (next.Out o) a = inl refl
+enters p n v h (next.Moved o) a = inl refl
 enters p n v h (next.Linked c r) a = inl refl
 enters p n v h (next.Raised s t) a = inr (subst Surveys (sym a) tt)
 enters p n v h (next.Walked k r) a = inr (at_survey p k a)
@@ -61,7 +61,7 @@ turn_changes s w f c m =
     (enters (worker_at s w).place s.sizes.keys (worker_at s w) (hand_at s w) (next_at s w) (follows (worker_at s w).place (hand_at s w) (got_of s.sizes s.cells (touch_at s w))))
 
 -- a cell is of a row or on a page, and not both
-row_no_page : (k : Kind) (r v : ℕ) (c : Cell) → OfRow k r c → OnPage v c → ⊥
+pub row_no_page : (k : Kind) (r v : ℕ) (c : Cell) → OfRow k r c → OnPage v c → ⊥
 row_no_page k r v (cell.PageKey u i) a b = a
 row_no_page k r v (cell.PagePair u i j) a b = a
 row_no_page k r v c a b = b

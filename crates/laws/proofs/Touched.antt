@@ -22,9 +22,9 @@ use Rattle.places.specs.declared.place.Touch.TheVariants as touch
 use Rattle.places.specs.Marks.{pending}
 use Rattle.places.specs.Private.{link_kind}
 use Rattle.places.specs.Touches.{side_row, look_kind, change_head, change_kind, job_kind, settled_field, link_touch, touch_of}
-use Rattle.stepper.specs.States.{State}
-use Rattle.stepper.specs.Effects.{filled, cells_after}
-use Rattle.stepper.specs.Turns.{worker_at, cell_at, spare_for}
+use Rattle.machine.specs.States.{State}
+use Rattle.machine.specs.Effects.{filled, cells_after}
+use Rattle.machine.specs.Turns.{worker_at, cell_at, spare_for}
 use Rattle.laws.specs.Fits.{Linked, FitBound, FitChange, FitPurpose, FitPlace}
 use Rattle.laws.specs.Changes.{OfRow, next_own, number_in, Changes, Changes.keeps, Changes.ticks, Changes.links, Changes.stamps, Changes.ends, Changes.fills}
 use Rattle.laws.proofs.Heads.{change_named}
@@ -44,7 +44,7 @@ pub record Settled (s : State) (p : Purpose) : Type 0 where
 settled_as : (s : State) (p : Purpose) (k : Kind) (g : Field) (r : ℕ) → settled_field p ≡ cell.Stamp k g r → Linked s k r → Settled s p
 settled_as s p k g r e l = record { kind = k; field = g; row = r; is = e; named = subst (Named s.sizes) (sym e) (linked_row s k r l); linked = l }
 
-side_linked : (s : State) (b : Bound) (d : Side) → FitBound s b → Linked s Vertex (side_row b d)
+pub side_linked : (s : State) (b : Bound) (d : Side) → FitBound s b → Linked s Vertex (side_row b d)
 side_linked s b Source f = f.source
 side_linked s b Target f = f.target
 
@@ -52,9 +52,9 @@ pub settled_field_lem : (s : State) (p : Purpose) → FitPurpose s p → Settled
 settled_field_lem s (purpose.Look g l r) f = settled_as s _ (look_kind l) g r refl f.1.linked
 settled_field_lem s (purpose.Own g c r) f = settled_as s _ (change_kind c) g r refl f.1
 settled_field_lem s (purpose.LostDel c r) f = settled_as s _ (change_kind c) Del r refl f.1.linked
-settled_field_lem s (purpose.WonIns i r) f = settled_as s _ Vertex Ins r refl f
-settled_field_lem s (purpose.BindAgain o b) f = settled_as s _ Vertex Del b.source refl f.source
-settled_field_lem s (purpose.Again d o b g) f = settled_as s _ Vertex Del (side_row b d) refl (side_linked s b d f.0)
+settled_field_lem s (purpose.WinnerIns i r) f = settled_as s _ Vertex Ins r refl f
+settled_field_lem s (purpose.SourceAgain o b) f = settled_as s _ Vertex Del b.source refl f.source
+settled_field_lem s (purpose.CheckAgain d o b g) f = settled_as s _ Vertex Del (side_row b d) refl (side_linked s b d f.0)
 settled_field_lem s (purpose.Compare d b g e x) f = settled_as s _ Vertex Del (side_row b d) refl (side_linked s b d f)
 settled_field_lem s (purpose.Walk g k r) f = settled_as s _ (job_kind k.job) g r refl f.1
 

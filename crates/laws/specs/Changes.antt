@@ -14,8 +14,8 @@ use Rattle.places.specs.declared.place.Place.{Place}
 use Rattle.places.specs.declared.place.Place.TheVariants as place
 use Rattle.places.specs.Marks.{pending}
 use Rattle.places.specs.Touches.{change_head, change_kind, settled_field}
-use Rattle.stepper.specs.States.{State}
-use Rattle.stepper.specs.Turns.{worker_at, cell_at, next_row}
+use Rattle.machine.specs.States.{State}
+use Rattle.machine.specs.Turns.{worker_at, cell_at, next_row}
 
 -- a cell of worker w's page
 abbrev pub OnPage : ℕ → Cell → Type 0

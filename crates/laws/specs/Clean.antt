@@ -9,9 +9,9 @@ use Rattle.layout.specs.Layout.{needed, Named}
 use Rattle.layout.specs.Rows.{no_row}
 use Rattle.places.specs.declared.place.Place.TheVariants as place
 use Rattle.places.specs.Touches.{head_kind}
-use Rattle.stepper.specs.States.{State}
-use Rattle.stepper.specs.Opening.{opened_state}
-use Rattle.stepper.specs.Turns.{worker_at}
+use Rattle.machine.specs.States.{State}
+use Rattle.machine.specs.Opening.{opened_state}
+use Rattle.machine.specs.Turns.{worker_at}
 use Rattle.laws.specs.Fits.{Counted}
 use Rattle.laws.specs.Changes.{number_in}
 

@@ -16,7 +16,7 @@ use Rattle.places.specs.declared.place.Change.{Change}
 use Rattle.places.specs.declared.place.Change.TheVariants as change
 use Rattle.places.specs.declared.place.Survey.{Survey}
 use Rattle.places.specs.declared.place.Survey.TheVariants.{Snapshot, Reach}
-use Rattle.places.specs.declared.place.Leg.{Leg}
+use Rattle.places.specs.declared.place.ServedPair.{ServedPair}
 use Rattle.places.specs.declared.place.Job.{Job}
 use Rattle.places.specs.declared.place.Job.TheVariants as job
 use Rattle.places.specs.declared.place.Purpose.{Purpose}
@@ -24,9 +24,9 @@ use Rattle.places.specs.declared.place.Purpose.TheVariants as purpose
 use Rattle.places.specs.declared.place.Place.{Place}
 use Rattle.places.specs.declared.place.Place.TheVariants as place
 use Rattle.places.specs.Touches.{head_kind, look_head, change_head, change_kind, job_kind}
-use Rattle.stepper.specs.States.{State}
-use Rattle.stepper.specs.Turns.{worker_at, cell_at}
-use Rattle.stepper.specs.Workers.{linked_of}
+use Rattle.machine.specs.States.{State}
+use Rattle.machine.specs.Turns.{worker_at, cell_at}
+use Rattle.machine.specs.Workers.{linked_of}
 
 -- row r of kind k is in a chain: it is the row of a head, or the older row of one that is in a chain
 pub data InChain (z : Sizes) (cs : List ℕ) (k : Kind) : ℕ → Type 0 where
@@ -40,9 +40,9 @@ Linked s k r = InChain s.sizes s.cells k r
 -- it is among the rows that its owner has used
 pub record Counted (s : State) (k : Kind) (r : ℕ) : Type 0 where
   pub owner : ℕ
-  pub place : ℕ
-  pub before : place < linked_of (worker_at s owner) k
-  pub is : row_at s.sizes k owner place ≡ Some r
+  pub nth : ℕ
+  pub before : nth < linked_of (worker_at s owner) k
+  pub is : row_at s.sizes k owner nth ≡ Some r
 
 abbrev pub IsKey : State → ℕ → Type 0
 IsKey s i = i < s.sizes.keys
@@ -89,23 +89,23 @@ abbrev pub FitSurvey : State → Survey → Type 0
 FitSurvey s Snapshot = Unit {0}
 FitSurvey s (Reach i) = IsKey s i
 
-abbrev pub FitLeg : State → Leg → Type 0
-FitLeg s l = IsKey s l.from × IsKey s l.to
+abbrev pub FitServedPair : State → ServedPair → Type 0
+FitServedPair s l = IsKey s l.from × IsKey s l.to
 
 abbrev pub FitJob : State → Job → Type 0
 FitJob s (job.Key i) = IsKey s i
 FitJob s (job.Start i) = IsKey s i
-FitJob s (job.Pair l) = FitLeg s l
-FitJob s (job.Target l e) = FitLeg s l
+FitJob s (job.Pair l) = FitServedPair s l
+FitJob s (job.Target l e) = FitServedPair s l
 
 -- the row whose field is settled is linked
 abbrev pub FitPurpose : State → Purpose → Type 0
 FitPurpose s (purpose.Look f l r) = FitLook s l × Held s (look_head l) r
 FitPurpose s (purpose.Own f c r) = FitChange s c × Linked s (change_kind c) r
 FitPurpose s (purpose.LostDel c r) = FitChange s c × Held s (change_head c) r
-FitPurpose s (purpose.WonIns i r) = Linked s Vertex r
-FitPurpose s (purpose.BindAgain o b) = FitBound s b
-FitPurpose s (purpose.Again d o b f) = FitBound s b × FitFound s b.pair f
+FitPurpose s (purpose.WinnerIns i r) = Linked s Vertex r
+FitPurpose s (purpose.SourceAgain o b) = FitBound s b
+FitPurpose s (purpose.CheckAgain d o b f) = FitBound s b × FitFound s b.pair f
 FitPurpose s (purpose.Compare d b f e x) = FitBound s b
 FitPurpose s (purpose.Walk f k r) = FitJob s k.job × Linked s (job_kind k.job) r
 

@@ -6,8 +6,8 @@ use Rattle.layout.specs.declared.names.Cell.{Cell}
 use Rattle.layout.specs.declared.names.Cell.TheVariants as cell
 use Rattle.layout.specs.Layout.{Named, IsRow}
 use Rattle.layout.specs.Rows.{Owns}
-use Rattle.stepper.specs.States.{State}
-use Rattle.stepper.specs.Turns.{worker_at, turned}
+use Rattle.machine.specs.States.{State}
+use Rattle.machine.specs.Turns.{worker_at, turned}
 use Rattle.laws.specs.Fits.{Linked, Fit}
 use Rattle.laws.specs.Changes.{OnPage, OfRow, number_in, Changes}
 

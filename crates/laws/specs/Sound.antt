@@ -5,9 +5,9 @@ use Rattle.layout.specs.declared.names.Head.{Head}
 use Rattle.layout.specs.declared.names.Cell.TheVariants as cell
 use Rattle.layout.specs.Layout.{needed, Named}
 use Rattle.places.specs.Touches.{head_kind}
-use Rattle.stepper.specs.States.{State}
-use Rattle.stepper.specs.Turns.{worker_at}
-use Rattle.stepper.specs.History.{Event, Traces}
+use Rattle.machine.specs.States.{State}
+use Rattle.machine.specs.Turns.{worker_at}
+use Rattle.machine.specs.History.{Event, Traces}
 use Rattle.laws.specs.Fits.{Linked, Counted, RowOrNone, FitPlace}
 use Rattle.laws.specs.Changes.{number_in}
 use Rattle.laws.specs.Laws.{TurnLaws}
@@ -22,7 +22,7 @@ pub record Sound (s : State) : Type 0 where
   pub places : (w : ℕ) → w < s.sizes.workers → FitPlace s (worker_at s w).place
   pub queues : (w n : ℕ) → w < s.sizes.workers → slice_index (worker_at s w).book.queue n < s.sizes.keys
 
--- every state that a history of begins and turns leads to from a clean state
+-- every state that a history leads to from a clean state
 abbrev pub RunsSound : Type 0
 RunsSound = (start : State) → Clean start → (h : List Event) (s : State) → Traces start h s → Sound s
 

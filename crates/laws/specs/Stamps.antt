@@ -11,9 +11,9 @@ use Rattle.places.specs.declared.place.Purpose.{Purpose}
 use Rattle.places.specs.declared.place.Place.TheVariants as place
 use Rattle.places.specs.Marks.{pending}
 use Rattle.places.specs.Touches.{settled_field}
-use Rattle.stepper.specs.States.{State}
-use Rattle.stepper.specs.Turns.{worker_at, turned}
-use Rattle.stepper.specs.History.{Event, Traces}
+use Rattle.machine.specs.States.{State}
+use Rattle.machine.specs.Turns.{worker_at, turned}
+use Rattle.machine.specs.History.{Event, Traces}
 use Rattle.laws.specs.Fits.{Linked}
 use Rattle.laws.specs.Changes.{number_in}
 use Rattle.laws.specs.Clean.{IsStamp, Clean}
@@ -61,6 +61,6 @@ pub record StampLaws (start : State) (h : List Event) (s : State) : Type 0 where
   -- the number that a worker puts in for pending is one that the clock had while the field was pending
   pub sources : (w : ℕ) → w < s.sizes.workers → (n : ℕ) (p : Purpose) → (worker_at s w).place ≡ place.Settle (stage.Swap n) p → number_in s (settled_field p) ≡ pending → Moment start h (settled_field p) n
 
--- every state that a history of begins and turns leads to from a clean state
+-- every state that a history leads to from a clean state
 abbrev pub RunsStamp : Type 0
 RunsStamp = (start : State) → Clean start → (h : List Event) (s : State) → Traces start h s → StampLaws start h s

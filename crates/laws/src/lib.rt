@@ -6,27 +6,27 @@ ghost use Rattle.laws.specs.Laws.{TurnsKeepLaws};
 ghost use Rattle.laws.specs.Sound.{RunsKeepLaws, RunsSound};
 ghost use Rattle.laws.specs.Stamps.{RunsStamp};
 
-// Which cells a turn can change and how, and what it leaves as it was.
+/// Which cells a turn can change and how, and what it leaves as it was.
 pub fn turn_laws()
     ensures { TurnsKeepLaws }
 {}
 
-// Every opening is clean.
+/// Every opening is clean.
 pub fn openings_clean()
     ensures { OpeningsClean }
 {}
 
-// In every state that a list of begins and turns leads to, each place names keys and linked rows.
+/// In every state that a list of requests leads to, each place names keys and linked rows.
 pub fn runs_sound()
     ensures { RunsSound }
 {}
 
-// So the laws hold of every turn of every run.
+/// So the laws hold of every turn of every run.
 pub fn runs_keep_laws()
     ensures { RunsKeepLaws }
 {}
 
-// In every run the clock keeps its limits, and ins and del of a linked row get at most one stamp each, which stays.
+/// In every run the clock keeps its limits, and ins and del of a linked row get at most one stamp each, which stays.
 pub fn runs_stamp()
     ensures { RunsStamp }
 {}

@@ -10,7 +10,7 @@ use Rattle.layout.specs.declared.names.Field.TheVariants.{Ins, Del}
 use Rattle.layout.specs.declared.names.Head.TheVariants as head
 use Rattle.layout.specs.declared.names.Cell.{Cell}
 use Rattle.layout.specs.declared.names.Cell.TheVariants as cell
-use Rattle.layout.specs.Layout.{index_of, needed, Named, page_size, stamp_place}
+use Rattle.layout.specs.Layout.{index_of, needed, Named, page_size, stamp_offset}
 use Rattle.layout.specs.Rows.{rows_all}
 
 abbrev pub size : Sizes → ℕ → ℕ
@@ -50,16 +50,16 @@ offset s cell.Clock = 0
 offset s (cell.Head (head.Vertex i)) = i
 offset s (cell.Head (head.Edge i j)) = i * s.keys + j
 offset s (cell.Older k r) = (r - 1) * row_width k + 0
-offset s (cell.Stamp k f r) = (r - 1) * row_width k + stamp_place f
+offset s (cell.Stamp k f r) = (r - 1) * row_width k + stamp_offset f
 offset s (cell.Source r) = (r - 1) * 6 + 3
 offset s (cell.Target r) = (r - 1) * 6 + 4
 offset s (cell.Weight r) = (r - 1) * 6 + 5
 offset s (cell.PageKey w k) = w * page_size s + k
 offset s (cell.PagePair w i j) = w * page_size s + (s.keys + (i * s.keys + j))
 
-pub stamp_place_lt : (f : Field) → stamp_place f < 3
-stamp_place_lt Ins = omega arith
-stamp_place_lt Del = omega arith
+pub stamp_offset_lt : (f : Field) → stamp_offset f < 3
+stamp_offset_lt Ins = omega arith
+stamp_offset_lt Del = omega arith
 
 pub index_split : (s : Sizes) (c : Cell) → index_of s c ≡ start s (region c) + offset s c
 index_split s cell.Clock = refl
@@ -81,8 +81,8 @@ offset_lt s (cell.Head (head.Vertex i)) h = h
 offset_lt s (cell.Head (head.Edge i j)) h = mul-add-lt i s.keys j s.keys h.0 h.1
 offset_lt s (cell.Older Vertex r) h = omega arith
 offset_lt s (cell.Older Edge r) h = omega arith
-offset_lt s (cell.Stamp Vertex f r) h = omega (arith, stamp_place_lt f)
-offset_lt s (cell.Stamp Edge f r) h = omega (arith, stamp_place_lt f)
+offset_lt s (cell.Stamp Vertex f r) h = omega (arith, stamp_offset_lt f)
+offset_lt s (cell.Stamp Edge f r) h = omega (arith, stamp_offset_lt f)
 offset_lt s (cell.Source r) h = omega arith
 offset_lt s (cell.Target r) h = omega arith
 offset_lt s (cell.Weight r) h = omega arith

@@ -11,57 +11,57 @@ use Rattle.layout.specs.declared.names.Cell.TheVariants as cell
 use Rattle.layout.specs.Rows.{rows_all}
 
 abbrev pub page_size : Sizes → ℕ
-page_size s = s.keys + s.keys * s.keys
+page_size z = z.keys + z.keys * z.keys
 
 abbrev pub vertex_base : Sizes → ℕ
-vertex_base s = 1 + s.keys + s.keys * s.keys
+vertex_base z = 1 + z.keys + z.keys * z.keys
 
 abbrev pub edge_base : Sizes → ℕ
-edge_base s = vertex_base s + 3 * rows_all s Vertex
+edge_base z = vertex_base z + 3 * rows_all z Vertex
 
 abbrev pub page_base : Sizes → ℕ
-page_base s = edge_base s + 6 * rows_all s Edge
+page_base z = edge_base z + 6 * rows_all z Edge
 
 -- how many cells an opening needs
 abbrev pub needed : Sizes → ℕ
-needed s = page_base s + s.workers * page_size s
+needed z = page_base z + z.workers * page_size z
 
 -- a vertex row has the cells older, ins, del; an edge row also source, target, weight
 abbrev pub row_start : Sizes → Kind → ℕ → ℕ
-row_start s Vertex r = vertex_base s + 3 * (r - 1)
-row_start s Edge r = edge_base s + 6 * (r - 1)
+row_start z Vertex r = vertex_base z + 3 * (r - 1)
+row_start z Edge r = edge_base z + 6 * (r - 1)
 
-abbrev pub stamp_place : Field → ℕ
-stamp_place Ins = 1
-stamp_place Del = 2
+abbrev pub stamp_offset : Field → ℕ
+stamp_offset Ins = 1
+stamp_offset Del = 2
 
 abbrev pub page_start : Sizes → ℕ → ℕ
-page_start s w = page_base s + w * page_size s
+page_start z w = page_base z + w * page_size z
 
 abbrev pub index_of : Sizes → Cell → ℕ
-index_of s cell.Clock = 0
-index_of s (cell.Head (head.Vertex i)) = 1 + i
-index_of s (cell.Head (head.Edge i j)) = 1 + s.keys + s.keys * i + j
-index_of s (cell.Older k r) = row_start s k r
-index_of s (cell.Stamp k f r) = row_start s k r + stamp_place f
-index_of s (cell.Source r) = row_start s Edge r + 3
-index_of s (cell.Target r) = row_start s Edge r + 4
-index_of s (cell.Weight r) = row_start s Edge r + 5
-index_of s (cell.PageKey w k) = page_start s w + k
-index_of s (cell.PagePair w i j) = page_start s w + s.keys + s.keys * i + j
+index_of z cell.Clock = 0
+index_of z (cell.Head (head.Vertex i)) = 1 + i
+index_of z (cell.Head (head.Edge i j)) = 1 + z.keys + z.keys * i + j
+index_of z (cell.Older k r) = row_start z k r
+index_of z (cell.Stamp k f r) = row_start z k r + stamp_offset f
+index_of z (cell.Source r) = row_start z Edge r + 3
+index_of z (cell.Target r) = row_start z Edge r + 4
+index_of z (cell.Weight r) = row_start z Edge r + 5
+index_of z (cell.PageKey w k) = page_start z w + k
+index_of z (cell.PagePair w i j) = page_start z w + z.keys + z.keys * i + j
 
 abbrev pub IsRow : Sizes → Kind → ℕ → Type 0
-IsRow s k r = (1 ≤ r) × (r ≤ rows_all s k)
+IsRow z k r = (1 ≤ r) × (r ≤ rows_all z k)
 
 -- the names that there are
 abbrev pub Named : Sizes → Cell → Type 0
-Named s cell.Clock = Unit {0}
-Named s (cell.Head (head.Vertex i)) = i < s.keys
-Named s (cell.Head (head.Edge i j)) = (i < s.keys) × (j < s.keys)
-Named s (cell.Older k r) = IsRow s k r
-Named s (cell.Stamp k f r) = IsRow s k r
-Named s (cell.Source r) = IsRow s Edge r
-Named s (cell.Target r) = IsRow s Edge r
-Named s (cell.Weight r) = IsRow s Edge r
-Named s (cell.PageKey w k) = (w < s.workers) × (k < s.keys)
-Named s (cell.PagePair w i j) = (w < s.workers) × (i < s.keys) × (j < s.keys)
+Named z cell.Clock = Unit {0}
+Named z (cell.Head (head.Vertex i)) = i < z.keys
+Named z (cell.Head (head.Edge i j)) = (i < z.keys) × (j < z.keys)
+Named z (cell.Older k r) = IsRow z k r
+Named z (cell.Stamp k f r) = IsRow z k r
+Named z (cell.Source r) = IsRow z Edge r
+Named z (cell.Target r) = IsRow z Edge r
+Named z (cell.Weight r) = IsRow z Edge r
+Named z (cell.PageKey w k) = (w < z.workers) × (k < z.keys)
+Named z (cell.PagePair w i j) = (w < z.workers) × (i < z.keys) × (j < z.keys)

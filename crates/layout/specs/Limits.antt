@@ -1,5 +1,5 @@
 -- The limits of the five sizes, and what making a set of sizes answers.
-use Rattle.std.specs.Prelude.{ℕ, Bool, cond, ◌&&◌, Ok, Err, Result, nat_le}
+use Rattle.std.specs.Prelude.{ℕ, Bool, if◌then◌else◌, ◌&&◌, Ok, Err, Result, nat_le}
 use Rattle.codes.specs.declared.refusal.Refusal.{Refusal}
 use Rattle.codes.specs.declared.refusal.Refusal.TheVariants.{SizeOutside}
 use Rattle.layout.specs.declared.sizes.Sizes.{Sizes}
@@ -20,12 +20,14 @@ pub record Numbers : Type 0 where
   pub top : ℕ
 
 abbrev pub numbers_of : Result Sizes Refusal → Result Numbers Refusal
-numbers_of (Ok s) = Ok (record { keys = s.keys; workers = s.workers; vrows = s.vrows; erows = s.erows; top = s.top })
+numbers_of (Ok z) = Ok (record { keys = z.keys; workers = z.workers; vrows = z.vrows; erows = z.erows; top = z.top })
 numbers_of (Err e) = Err e
 
 -- sizes within their limits are made as they are; others are refused
 abbrev pub sized : ℕ → ℕ → ℕ → ℕ → ℕ → Result Numbers Refusal
-sized n w a b t = cond (lawful n w a b t) (Ok (record { keys = n; workers = w; vrows = a; erows = b; top = t })) (Err SizeOutside)
+sized n w a b t =
+    if lawful n w a b t then Ok (record { keys = n; workers = w; vrows = a; erows = b; top = t })
+    else Err SizeOutside
 
 -- what an opening asks for
 abbrev pub sized_as : Opening → Result Numbers Refusal

@@ -1,14 +1,14 @@
 // Making sizes, and the index of a named cell.
 ghost use Rattle.std.specs.Prelude.{◌≡◌};
 ghost use Rattle.layout.specs.Limits.{numbers_of, sized};
-ghost use Rattle.layout.specs.Layout.{index_of, needed, page_size, vertex_base, edge_base, page_base, row_start, page_start, stamp_place};
+ghost use Rattle.layout.specs.Layout.{index_of, needed, page_size, vertex_base, edge_base, page_base, row_start, page_start, stamp_offset};
 
 use crate::names::{Cell, Field, Head, Kind};
 use crate::sizes::Sizes;
 use codes::Refusal;
 
 impl Sizes {
-    // Sizes within their limits, or a refusal.
+    /// Sizes within their limits; else `SizeOutside`.
     pub fn new(
         keys: usize,
         workers: usize,
@@ -30,7 +30,7 @@ impl Sizes {
         }
     }
 
-    // How many cells a page has.
+    /// How many cells a page has: one for each key and one for each pair of keys.
     pub fn page_size(&self) -> usize
         ensures { result ≡ page_size self.now }
     {
@@ -55,7 +55,7 @@ impl Sizes {
         self.edge_base() + 6 * (self.workers * self.erows)
     }
 
-    // How many cells an opening needs.
+    /// How many cells an opening needs, at most 141,889.
     pub fn needed(&self) -> usize
         ensures { result ≡ needed self.now }
     {
@@ -72,14 +72,15 @@ impl Sizes {
         }
     }
 
-    // Where a worker's page starts.
+    /// The number of the first cell of worker `w`'s page; its key cells come first, then its pair cells.
     pub fn page_start(&self, w: u8) -> usize
         ensures { result ≡ page_start self.now w }
     {
         self.page_base() + w as usize * self.page_size()
     }
 
-    // The one place that sends a name to its cell.
+    /// The number of a named cell, counted from 0: the one place that sends a name to its cell. A name outside the sizes gives a
+    /// number that means nothing.
     pub fn index(&self, cell: Cell) -> usize
         ensures { result ≡ index_of self.now cell }
     {
@@ -88,7 +89,7 @@ impl Sizes {
             Cell::Head(Head::Vertex(i)) => 1 + i as usize,
             Cell::Head(Head::Edge(i, j)) => 1 + self.keys + self.keys * i as usize + j as usize,
             Cell::Older(kind, row) => self.row_start(kind, row),
-            Cell::Stamp(kind, field, row) => self.row_start(kind, row) + field.place(),
+            Cell::Stamp(kind, field, row) => self.row_start(kind, row) + field.offset(),
             Cell::Source(row) => self.row_start(Kind::Edge, row) + 3,
             Cell::Target(row) => self.row_start(Kind::Edge, row) + 4,
             Cell::Weight(row) => self.row_start(Kind::Edge, row) + 5,
@@ -103,8 +104,8 @@ impl Sizes {
 
 impl Field {
     // Where a stamp lies in its row.
-    fn place(self) -> usize
-        ensures { result ≡ stamp_place self }
+    fn offset(self) -> usize
+        ensures { result ≡ stamp_offset self }
     {
         match self {
             Field::Ins => 1,

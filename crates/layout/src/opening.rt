@@ -5,7 +5,7 @@ ghost use Rattle.layout.specs.Limits.{numbers_of, sized_as};
 use crate::sizes::Sizes;
 use codes::Refusal;
 
-// The five sizes that an opening names, not yet within their limits.
+/// The five sizes that an opening names, not yet within their limits.
 #[derive(Clone, Copy, PartialEq, Eq, Debug)]
 pub struct Opening {
     pub keys: u8,

@@ -1,7 +1,8 @@
 // The sizes of an opening. A set of sizes, once made, is within these limits.
 ghost use Rattle.std.specs.Prelude.{◌≤◌};
 
-// `vrows` and `erows` are the vertex rows and the edge rows of each worker, `top` the greatest clock.
+/// The sizes of a run: 1 to 64 keys, 1 to 8 workers, `vrows` vertex rows (1 to 256) and `erows` edge rows (1 to 2,048) for each
+/// worker, and `top`, the greatest clock (1 to 1,000,000,000). A value is always within these limits.
 #[derive(Clone, Copy, PartialEq, Eq, Debug)]
 pub struct Sizes {
     pub keys: usize,

@@ -3,13 +3,13 @@ use Rattle.std.proofs.Common.{◌≡◌, ℕ, ◌+◌, ◌<◌, ◌≤◌, true,
 use Rattle.std.proofs.lemmas.Bool.{cases_Bool}
 use Rattle.std.proofs.lemmas.Bool.Decides.{nat_tests}
 use Rattle.questions.specs.Graph.{Graph}
-use Rattle.order.specs.Marks.{Old, Marks, Sound}
+use Rattle.order.specs.Marks.{Old, Marks, MarksSound}
 use Rattle.order.specs.Raises.{AllSettled}
 use Rattle.order.specs.Marked.{Marking, before_start, Marked}
 use Rattle.order.specs.Ends.{ShowsOld}
-use Rattle.order.specs.Clean.{Start, Clean, ShowsStart, no_calls, started_run, CleanStarts}
+use Rattle.order.specs.Clean.{Start, CleanStart, ShowsStart, no_calls, started_run, CleanStarts}
 
-module _ (first : ℕ) (high : 0 < first) (s : Start) (clean : Clean s) where
+module _ (first : ℕ) (high : 0 < first) (s : Start) (clean : CleanStart s) where
   abbrev run : Marking
   run = started_run first s
 
@@ -56,7 +56,7 @@ module _ (first : ℕ) (high : 0 < first) (s : Start) (clean : Clean s) where
   edge_born : (e : ℕ) → s.edge_there e ≡ true → (m.edge_ins e).stamp ≡ first
   edge_born e h = grind arith
 
-  sound : Sound 1 first m
+  sound : MarksSound 1 first m
   sound = record {
     vertex_ins = λ r. omega (arith, vertex_small r);
     vertex_del = λ r. omega arith;

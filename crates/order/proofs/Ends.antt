@@ -8,7 +8,7 @@ use Rattle.order.specs.Order.{Ordered}
 use Rattle.order.specs.Keys.{number}
 use Rattle.order.specs.Marks.{Mark, Old, source_end, target_end, change_key, moved_key, has_effect}
 use Rattle.order.specs.Rows.{Rows, vertex_lives, edge_lives, has_at, edge_at, far_key, unborn}
-use Rattle.order.specs.Raises.{VertexVisible, EdgeVisible, ShowsVisible}
+use Rattle.order.specs.Raises.{VertexVisibleByMarks, EdgeVisibleByMarks, ShowsVisible}
 use Rattle.order.specs.Marked.{Marking, before_start, by_call, Marked, start_key, end_key, start_graph, end_graph}
 use Rattle.order.specs.Ends.{ShowsOld, NoneEnded, RunsShowEnds, OldRowsStand}
 use Rattle.order.proofs.Keys.{compared, number_by_stamp, number_by_part}
@@ -143,20 +143,20 @@ module _ {h : Past} {run : Marking} (p : Marked h run) where
   after_last : (x : Mark) → x.time < run.bound → run.top < x.stamp → last < number run.bound (change_key run.bound x)
   after_last x t h = omega (arith, p.some_time, compared run.bound (change_key run.bound x) (end_key run) (bounded_change run.bound x t) (bounded_end p))
 
-  visible_lives : (v : ℕ) → VertexVisible run.marks run.top v → vertex_lives (rows p) last v ≡ true
+  visible_lives : (v : ℕ) → VertexVisibleByMarks run.marks run.top v → vertex_lives (rows p) last v ≡ true
   visible_lives v h =
       let born = by_last (run.marks.vertex_ins v) (p.sound.vertex_ins v) h.born in
       let ends = after_last (run.marks.vertex_del v) (p.sound.vertex_del v) h.ends in
       grind (arith, nat_tests)
 
-  living_visible : (v : ℕ) → v < run.marks.vertices → vertex_lives (rows p) last v ≡ true → VertexVisible run.marks run.top v
+  living_visible : (v : ℕ) → v < run.marks.vertices → vertex_lives (rows p) last v ≡ true → VertexVisibleByMarks run.marks run.top v
   living_visible v m lives = record {
     row = m;
     born = stamped_by (run.marks.vertex_ins v) (p.sound.vertex_ins v) (grind (arith, nat_tests));
     ends = stamped_later (run.marks.vertex_del v) (p.sound.vertex_del v) (grind (arith, nat_tests));
   }
 
-  visible_edge_lives : (e : ℕ) → EdgeVisible run.marks run.top e → edge_lives (rows p) last e ≡ true
+  visible_edge_lives : (e : ℕ) → EdgeVisibleByMarks run.marks run.top e → edge_lives (rows p) last e ≡ true
   visible_edge_lives e h =
       let d = source_end run.marks e in let f = target_end run.marks e in let x = run.marks.edge_ins e in let y = run.marks.edge_del e in
       let from = h.source.ends in let to = h.target.ends in let stamped = h.born in let unstamped = h.ends in
@@ -170,7 +170,7 @@ module _ {h : Past} {run : Marking} (p : Marked h run) where
       let target = after_last f (p.sound.vertex_del (run.marks.target e)) to in
       grind (arith, nat_tests)
 
-  living_edge_visible : (e : ℕ) → e < run.marks.edges → edge_lives (rows p) last e ≡ true → EdgeVisible run.marks run.top e
+  living_edge_visible : (e : ℕ) → e < run.marks.edges → edge_lives (rows p) last e ≡ true → EdgeVisibleByMarks run.marks run.top e
   living_edge_visible e m lives =
       let d = source_end run.marks e in let f = target_end run.marks e in let x = run.marks.edge_ins e in let y = run.marks.edge_del e in
       let birth : (rows p).edge_born e ≤ last = grind (arith, nat_tests) in

@@ -2,7 +2,7 @@
 use Rattle.std.proofs.Common.{ℕ, suc, ◌+◌, ◌<◌, ◌≤◌, ◌⊎◌, refl, inl, inr, arith}
 use Rattle.order.specs.Keys.{Key, Bounded, Fits}
 use Rattle.order.specs.Marks.{Mark, Earlier, change_key, moved_time, moved_key}
-use Rattle.order.specs.Finds.{Before}
+use Rattle.order.specs.Finds.{BeforeKey}
 use Rattle.order.specs.Raises.{raise_key}
 use Rattle.order.proofs.Moves.{moved_for_le, moved_for_after}
 
@@ -17,7 +17,7 @@ after_key bound x b = record { stamp = x.stamp; time = x.time; part = suc (bound
 pub after_key_bounded : (bound : ℕ) (x : Mark) (b : ℕ) → x.time < bound → suc b < bound → Bounded bound (after_key bound x b)
 after_key_bounded bound x b t h = omega arith
 
-pub after_key_before : (bound : ℕ) (x : Mark) (b : ℕ) → Before bound (after_key bound x b) x
+pub after_key_before : (bound : ℕ) (x : Mark) (b : ℕ) → BeforeKey bound (after_key bound x b) x
 after_key_before bound x b = inr (refl, refl, omega arith)
 
 -- a call began at b, and was finished at a or is unfinished at a

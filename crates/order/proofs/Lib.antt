@@ -12,8 +12,8 @@ mod Replay
 mod Numbered
 mod Owners
 mod Marked
-mod Raises
-mod Ends
+pub mod Raises
+pub mod Ends
 mod Clean
 pub mod Seen
 mod Stands

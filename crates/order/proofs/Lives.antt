@@ -3,7 +3,7 @@ use Rattle.std.proofs.Common.{◌≡◌, ℕ, suc, ◌<◌, ◌≤◌, true, fal
 use Rattle.std.proofs.lemmas.Bool.{cases_Bool}
 use Rattle.std.proofs.lemmas.Bool.Decides.{nat_tests}
 use Rattle.order.specs.Keys.{Bounded, number}
-use Rattle.order.specs.Marks.{Mark, Earlier, Distinct, Marks, source_end, target_end, change_key, moved_key, has_effect, edge_effect, Sound}
+use Rattle.order.specs.Marks.{Mark, Earlier, Distinct, Marks, source_end, target_end, change_key, moved_key, has_effect, edge_effect, MarksSound}
 use Rattle.order.specs.Rows.{Rows, edge_lives, far_key, unborn, edge_number, rows_of}
 use Rattle.order.proofs.Keys.{number_by_stamp}
 use Rattle.order.proofs.Rows.{Lawful}
@@ -68,7 +68,7 @@ module _ (bound top : ℕ) where
         (number_by_stamp bound (change_key bound b) (far_key bound (unborn top)) (bounded_change bound b p) (omega arith))
   ]
 
-module _ (bound top : ℕ) (m : Marks) (s : Sound bound top m) where
+module _ (bound top : ℕ) (m : Marks) (s : MarksSound bound top m) where
   abbrev rows : Rows
   rows = rows_of bound top m
 

@@ -8,7 +8,7 @@ use Rattle.places.specs.declared.place.Pair.{Pair}
 use Rattle.questions.specs.Graph.{Graph}
 use Rattle.order.specs.Graph.{empty, with_vertex, both}
 use Rattle.order.specs.Past.{Belongs}
-use Rattle.order.specs.Mistakes.{Tells, two_apart, pending_change, finished_add, late_birth}
+use Rattle.order.specs.Mistakes.{Tells, two_apart, pending_change, finished_add, seen_early, late_birth}
 use Rattle.order.proofs.Short.{short_order}
 use Rattle.order.proofs.Lists.{contains_none, contains_rest}
 use Rattle.order.proofs.Through.{Through, through_same, no_order}
@@ -74,6 +74,38 @@ left_out = record {
       ])
       (λ g q. contains_none 10 q.0) empty
       (λ order o. ((o.members 10).1 (record { began = refl; done = inl refl }), inl ((o.members 1).1 (record { began = refl; done = inl refl }))));
+}
+
+one_or_ten : (a : Answer) (b : ℕ) → Belongs (seen_early a) b → (b ≡ 1) ⊎ (b ≡ 10)
+one_or_ten a b h = elim (cases_eq b 1) [
+  | inl q ↦ inl q
+  | inr q ↦ elim (cases_eq b 10) [ inl o ↦ inr o | inr o ↦ absurd (let x = h.began in grind (arith, nat_tests)) ]
+]
+
+looks_early : Through (seen_early VertexPresent) (λ g bs. Contains bs 1 × (g.has 0 ≡ false)) 1
+looks_early g bs n (z, absent) = absurd (let a = n.explained.answer in grind arith)
+
+adds_late : Through (seen_early VertexPresent) (λ g bs. Contains bs 1 × (g.has 0 ≡ false)) 10
+adds_late g bs n (z, absent) =
+    absurd (n.not_after 1 (contains_rest 10 1 bs (λ e. omega (arith, e)) z) (record { time = 3; answer = VertexPresent; page = empty }, refl, omega arith))
+
+pub turned_round : Tells seen_early empty VertexAbsent VertexPresent
+turned_round = record {
+  right = (
+    1 ∷ 10 ∷ [],
+    short_order (seen_early VertexAbsent) empty (1 ∷ 10 ∷ [])
+        (λ b h. elim (one_or_ten VertexAbsent b h) [ inl q ↦ (0, omega arith, sym q) | inr q ↦ (1, omega arith, sym q) ])
+        (record { began = refl; done = inl refl }, (record { began = refl; done = inl refl }, tt))
+        (((refl, omega arith, tt), tt), (tt, tt))
+        (record { answer = refl; page = tt }, (record { answer = refl; page = tt }, tt)),
+  );
+  wrong = no_order (seen_early VertexPresent) (λ g bs. Contains bs 1 × (g.has 0 ≡ false))
+      (λ b h. elim (one_or_ten VertexPresent b h) [
+        | inl q ↦ through_same (seen_early VertexPresent) (λ g bs. Contains bs 1 × (g.has 0 ≡ false)) b 1 q looks_early
+        | inr q ↦ through_same (seen_early VertexPresent) (λ g bs. Contains bs 1 × (g.has 0 ≡ false)) b 10 q adds_late
+      ])
+      (λ g q. contains_none 1 q.0) empty
+      (λ order o. ((o.members 1).1 (record { began = refl; done = inl refl }), refl));
 }
 
 one_of_three : (l : Bool) (b : ℕ) → Belongs (late_birth l) b → (b ≡ 1) ⊎ ((b ≡ 2) ⊎ (b ≡ 20))

@@ -6,7 +6,7 @@ use Rattle.order.specs.Keys.{Key, Bounded, number}
 use Rattle.order.specs.Marks.{source_end, target_end, Mark, Old, change_key, moved_key, has_effect}
 use Rattle.order.specs.Rows.{far_key, unborn, edge_number}
 use Rattle.order.specs.Finds.{RowChange, no_change, vertex_born, vertex_ends, edge_born, edge_ends}
-use Rattle.order.specs.Marked.{Marking, Made, before_start, by_call, Marked, start_key, end_key}
+use Rattle.order.specs.Marked.{Marking, MadeAtKey, before_start, by_call, Marked, start_key, end_key}
 use Rattle.order.proofs.Keys.{compared}
 use Rattle.order.proofs.Moves.{moved_for_le, moved_part_is, bounded_change, bounded_moved}
 use Rattle.order.proofs.Lives.{edge_number_effect, edge_number_far}
@@ -24,7 +24,7 @@ module _ {h : Past} {run : Marking} (p : Marked h run) where
   module _ (n : ℕ) (low : bottom p ≤ n) (high : n < bottom p + span p) where
     -- a vertex change at the key after n
     vertex_owned : (x : Mark) (v : RowChange) → x.time < run.bound → number run.bound (change_key run.bound x) ≡ suc n →
-        (x.stamp ≤ run.top → Made run x (change_key run.bound x) v) → Owned n v
+        (x.stamp ≤ run.top → MadeAtKey run x (change_key run.bound x) v) → Owned n v
     vertex_owned x v t q by =
         let bounded = bounded_change run.bound x t in
         elim (by (omega (arith, bottom_and_span p, compared run.bound (change_key run.bound x) (end_key run) bounded (bounded_end p)))) [
@@ -46,7 +46,7 @@ module _ {h : Past} {run : Marking} (p : Marked h run) where
 
     -- an edge change at the key after n
     edge_owned : (m : ℕ) (d f x : Mark) (v : RowChange) → run.top < m → x.time < run.bound → edge_number run.bound run.top m d f x ≡ suc n →
-        (has_effect run.top d f x ≡ true → Made run x (moved_key run.bound d f x) v) → Owned n v
+        (has_effect run.top d f x ≡ true → MadeAtKey run x (moved_key run.bound d f x) v) → Owned n v
     edge_owned m d f x v far t q by = elim (cases_Bool (has_effect run.top d f x)) [
       | inr h ↦ absurd (far_not_next m far (sym (edge_number_far run.bound run.top m d f x h) ∙ q))
       | inl h ↦

@@ -4,10 +4,10 @@ use Rattle.std.proofs.lemmas.Bool.{cases_lt}
 use Rattle.std.proofs.lemmas.Bool.Decides.{nat_tests}
 use Rattle.questions.specs.Graph.{Graph}
 use Rattle.order.specs.Keys.{Key, Bounded, number}
-use Rattle.order.specs.Marks.{Mark, Marks, source_end, target_end, Sound}
+use Rattle.order.specs.Marks.{Mark, Marks, source_end, target_end, MarksSound}
 use Rattle.order.specs.Rows.{Rows, edge_lives, has_at, edge_at, graph_at, rows_of}
-use Rattle.order.specs.Finds.{Before, After, VertexThere, EdgeThere, VertexFound}
-use Rattle.order.specs.Raises.{Raise, Settled, AllSettled, VertexVisible, EdgeVisible, Joins, ShowsVisible, raise_key, RaiseMeets, RaisesShowVisible}
+use Rattle.order.specs.Finds.{BeforeKey, AfterKey, VertexThere, EdgeThere, VertexFound}
+use Rattle.order.specs.Raises.{Raise, Settled, AllSettled, VertexVisibleByMarks, EdgeVisibleByMarks, Joins, ShowsVisible, raise_key, RaiseMeets, RaisesShowVisible}
 use Rattle.order.proofs.Keys.{number_by_part}
 use Rattle.order.proofs.Rows.{vertex_row, edge_row}
 use Rattle.order.proofs.Changes.{graph_equal}
@@ -36,7 +36,7 @@ suc_pred : (n : ℕ) → 0 < n → n ≡ suc (pred n)
 suc_pred zero l = absurd (omega arith)
 suc_pred (suc n) l = refl
 
-module _ (clock : ℕ → ℕ) (bound top : ℕ) (m : Marks) (s : Sound bound top m)
+module _ (clock : ℕ → ℕ) (bound top : ℕ) (m : Marks) (s : MarksSound bound top m)
     (r t : ℕ) (time : r < bound) (low : t ≤ top) (raise : Raise clock r t) (all : AllSettled clock r top m) where
   abbrev key : Key
   key = raise_key bound r t
@@ -54,16 +54,16 @@ module _ (clock : ℕ → ℕ) (bound top : ℕ) (m : Marks) (s : Sound bound to
   rows = rows_of bound top m
 
   -- a change stamped by then comes before the raise
-  before : (x : Mark) → Settled clock r top x → x.stamp ≤ t → Before bound key x
+  before : (x : Mark) → Settled clock r top x → x.stamp ≤ t → BeforeKey bound key x
   before x settled h = elim (cases_lt r x.time) [
     | inl l ↦ absurd (omega (arith, settled (omega arith), raise.rises (suc r) x.time l, raise.rises 0 r (omega arith), raise.next))
     | inr l ↦ elim (cases_lt x.stamp t) [ inl q ↦ inl (inl q) | inr q ↦ inl (inr (omega arith, omega (arith, settled (omega arith)))) ]
   ]
 
-  after : (x : Mark) → t < x.stamp → After key x
+  after : (x : Mark) → t < x.stamp → AfterKey key x
   after x h = inl h
 
-  vertex_there : (v : ℕ) → VertexVisible m t v → VertexThere bound m key v
+  vertex_there : (v : ℕ) → VertexVisibleByMarks m t v → VertexThere bound m key v
   vertex_there v h = record { row = h.row; born = before (m.vertex_ins v) (all.vertex_ins v) h.born; ends = after (m.vertex_del v) h.ends }
 
   -- what the keys of a vertex row say of its stamps
@@ -80,7 +80,7 @@ module _ (clock : ℕ → ℕ) (bound top : ℕ) (m : Marks) (s : Sound bound to
   ]
 
   -- an edge row that is there at the key is visible, with its vertex rows
-  edge_visible : (e : ℕ) → e < m.edges → edge_lives rows k e ≡ true → EdgeVisible m t e
+  edge_visible : (e : ℕ) → e < m.edges → edge_lives rows k e ≡ true → EdgeVisibleByMarks m t e
   edge_visible e l lives =
       let birth : rows.edge_born e ≤ k = grind (arith, nat_tests) in
       let source = ends_later (m.source e) (grind (arith, nat_tests)) in
@@ -99,24 +99,24 @@ module _ (clock : ℕ → ℕ) (bound top : ℕ) (m : Marks) (s : Sound bound to
         target = record { row = s.target_row e (omega arith); born = born_by (m.target e) (omega (arith, laws.after_target e)); ends = target };
       }
 
-  vertex_shown : (i : ℕ) → has_at rows k i ≡ true → (v : ℕ) × VertexVisible m t v × (m.key_of v ≡ i)
+  vertex_shown : (i : ℕ) → has_at rows k i ≡ true → (v : ℕ) × VertexVisibleByMarks m t v × (m.key_of v ≡ i)
   vertex_shown i h =
       let (v, l, shows) = vertex_row rows k i h in
       (v, record { row = l; born = born_by v (grind (arith, nat_tests)); ends = ends_later v (grind (arith, nat_tests)) }, grind (arith, nat_tests))
 
-  edge_shown : (i j x : ℕ) → edge_at rows k i j ≡ Some x → (e : ℕ) × EdgeVisible m t e × Joins m e i j x
+  edge_shown : (i j x : ℕ) → edge_at rows k i j ≡ Some x → (e : ℕ) × EdgeVisibleByMarks m t e × Joins m e i j x
   edge_shown i j x h =
       let (e, l, shows, weight) = edge_row rows k i j x h in
       (e, edge_visible e l (grind (arith, nat_tests)), record { from = grind (arith, nat_tests); to = grind (arith, nat_tests); weight = weight })
 
-  edge_joins : (i j x e : ℕ) → EdgeVisible m t e → Joins m e i j x → edge_at rows k i j ≡ Some x
+  edge_joins : (i j x e : ℕ) → EdgeVisibleByMarks m t e → Joins m e i j x → edge_at rows k i j ≡ Some x
   edge_joins i j x e v o =
       let there : EdgeThere bound m key e = record { row = v.row; born = before (m.edge_ins e) (all.edge_ins e) v.born; ends = after (m.edge_del e) v.ends } in
       let shown = edge_there bound top m s key bounded k at e there (after (source_end m e) v.source.ends) (after (target_end m e) v.target.ends) low in
       subst₂ (λ i j. edge_at rows k i j ≡ Some x) o.from o.to (shown ∙ ap Some o.weight)
 
   -- where no row of key i is visible, each is born later or ended before
-  none_found : (i : ℕ) → ((v : ℕ) → VertexVisible m t v → m.key_of v ≢ i) → VertexFound bound m key i false
+  none_found : (i : ℕ) → ((v : ℕ) → VertexVisibleByMarks m t v → m.key_of v ≢ i) → VertexFound bound m key i false
   none_found i none v l q = elim (cases_lt t (m.vertex_ins v).stamp) [
     | inl b ↦ inl (after (m.vertex_ins v) b)
     | inr b ↦ elim (cases_lt t (m.vertex_del v).stamp) [

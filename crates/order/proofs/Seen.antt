@@ -6,9 +6,9 @@ use Rattle.codes.specs.declared.answer.Answer.{Answer}
 use Rattle.places.specs.declared.place.Call.{Call}
 use Rattle.questions.specs.Graph.{Graph}
 use Rattle.order.specs.Past.{Finish}
-use Rattle.order.specs.Seen.{Sight, begins, finishes, neither, open_after, open_call, is_open, finish_after, finish_by, OneAtATime, FinishSeen, PastsSeen}
+use Rattle.order.specs.Seen.{CallSight, begins, finishes, neither, open_after, open_call, is_open, finish_after, finish_by, OneAtATime, FinishSeen, PastsSeen}
 
-is_open_true : (o : Option ℕ) (b : ℕ) → is_open o b ≡ true → o ≡ Some b
+pub is_open_true : (o : Option ℕ) (b : ℕ) → is_open o b ≡ true → o ≡ Some b
 is_open_true None b e = absurd (grind arith)
 is_open_true (Some a) b e = let q : a ≡ b = grind (arith, nat_tests) in cc
 
@@ -19,7 +19,7 @@ is_open_false (Some a) b n = elim (cases_eq a b) [ inl q ↦ absurd (n (cc)) | i
 some_equal : (f g : Finish) → ◌≡◌ {A = Option Finish} (Some f) (Some g) → f ≡ g
 some_equal f g e = cc
 
-module _ (seen : ℕ → Sight) where
+module _ (seen : ℕ → CallSight) where
   -- worker w began the call b
   abbrev pub Began : ℕ → ℕ → Type 0
   Began b w = (c : Call) × (seen b ≡ begins w c)
@@ -33,7 +33,7 @@ module _ (seen : ℕ → Sight) where
   unfolding open_call
   open_step k w b e = go (seen k) refl e
     where
-      go : (s : Sight) → seen k ≡ s → open_after s k w (open_call seen k w) ≡ Some b → ((b ≡ k) × Began k w) ⊎ ((open_call seen k w ≡ Some b) × GoesOn k w)
+      go : (s : CallSight) → seen k ≡ s → open_after s k w (open_call seen k w) ≡ Some b → ((b ≡ k) × Began k w) ⊎ ((open_call seen k w ≡ Some b) × GoesOn k w)
       go (begins v c) q f = elim (cases_eq v w) [
         | inl x ↦ inl (grind (arith, nat_tests), (c, cc))
         | inr x ↦ inr (grind (arith, nat_tests), λ a p z. grind arith)
@@ -65,7 +65,7 @@ module _ (seen : ℕ → Sight) where
   finish_was_open zero b f e = absurd (grind arith)
   finish_was_open (suc k) b f e = go (seen k) refl e (finish_was_open k b f)
     where
-      go : (s : Sight) → seen k ≡ s → finish_after (open_call seen k) s k b (finish_by seen k b) ≡ Some f →
+      go : (s : CallSight) → seen k ≡ s → finish_after (open_call seen k) s k b (finish_by seen k b) ≡ Some f →
           (finish_by seen k b ≡ Some f → (f.time < k) × (w : ℕ) × (seen f.time ≡ finishes w f.answer f.page) × (open_call seen f.time w ≡ Some b)) →
           (f.time < suc k) × (w : ℕ) × (seen f.time ≡ finishes w f.answer f.page) × (open_call seen f.time w ≡ Some b)
       go (begins w c) q h before = let (l, v, i, j) = before h in (omega arith, v, i, j)
@@ -97,7 +97,7 @@ module _ (seen : ℕ → Sight) where
   unfolding finish_by
   finish_stays k b n = go (seen k) refl
     where
-      go : (s : Sight) → seen k ≡ s → finish_after (open_call seen k) (seen k) k b (finish_by seen k b) ≡ finish_by seen k b
+      go : (s : CallSight) → seen k ≡ s → finish_after (open_call seen k) (seen k) k b (finish_by seen k b) ≡ finish_by seen k b
       go (begins w c) q = rw q refl
       go (finishes w a p) q = let f = is_open_false (open_call seen k w) b (λ e. n w e a p q) in rw q (cc)
       go neither q = rw q refl
@@ -121,7 +121,7 @@ module _ (seen : ℕ → Sight) where
     unfolding open_call finish_by
     open_next k b w e = go (seen k) refl
       where
-        go : (s : Sight) → seen k ≡ s →
+        go : (s : CallSight) → seen k ≡ s →
             (open_after (seen k) k w (open_call seen k w) ≡ Some b) ⊎ IsSome (finish_after (open_call seen k) (seen k) k b (finish_by seen k b))
         go (begins v c) q = elim (cases_eq v w) [ inl x ↦ absurd (let f = alone k v c q in grind arith) | inr x ↦ inl (rw q (grind (arith, nat_tests))) ]
         go (finishes v a p) q = elim (cases_eq v w) [ inl x ↦ inr (rw (q, x) (grind (arith, nat_tests))) | inr x ↦ inl (rw q (grind (arith, nat_tests))) ]

@@ -5,7 +5,7 @@ use Rattle.codes.specs.declared.answer.Answer.{Answer}
 use Rattle.order.specs.Graph.{Feed, is_change}
 use Rattle.order.specs.Order.{Stamping, changes, raises, neither, stamping_as, StampOrder}
 use Rattle.order.specs.Keys.{Key, Bounded, number}
-use Rattle.order.specs.Marks.{Mark, Marks, source_end, target_end, edge_key, Sound}
+use Rattle.order.specs.Marks.{Mark, Marks, source_end, target_end, edge_key, MarksSound}
 use Rattle.order.specs.Finds.{RowChange, makes_change, Finds}
 use Rattle.order.specs.Finds.{adds_vertex, removes_vertex, adds_edge, removes_edge, finds_vertex, finds_no_vertex, finds_edge, takes_snapshot, reaches, reaches_none, ends_spent}
 use Rattle.order.proofs.Keys.{compared}
@@ -35,7 +35,7 @@ module _ (clock : ℕ → ℕ) (rises : (s t : ℕ) → s ≤ t → clock s ≤ 
   stampings_in_order (raises t) neither fair d f = tt
   stampings_in_order neither e fair d f = tt
 
-module _ (bound top : ℕ) (m : Marks) (s : Sound bound top m) (k : Key) where
+module _ (bound top : ℕ) (m : Marks) (s : MarksSound bound top m) (k : Key) where
   edge_part : (e : ℕ) (x : Mark) → x.time < bound → (edge_key bound m e x).part ≤ bound
   edge_part e x l = omega (arith, moved_part_is bound (source_end m e) (target_end m e) x)
 

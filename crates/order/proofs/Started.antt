@@ -7,7 +7,7 @@ use Rattle.order.specs.Graph.{with_edge}
 use Rattle.order.specs.Past.{Belongs}
 use Rattle.order.specs.Order.{left_by, OneOrder}
 use Rattle.order.specs.Keys.{Key}
-use Rattle.order.specs.Marks.{Sound, moved_for, moved_part, edge_key}
+use Rattle.order.specs.Marks.{MarksSound, moved_for, moved_part, edge_key}
 use Rattle.order.specs.Raises.{Raise, AllSettled, ShowsVisible, RaiseMeets}
 use Rattle.order.specs.Finds.{removes_edge, takes_snapshot}
 use Rattle.order.specs.Marked.{CallMarked, before_start, by_call, Marked}
@@ -59,7 +59,7 @@ shows = record {
 pub none_ended : NoneEnded run
 none_ended = record { vertices = λ v h. omega (arith, h); edges = λ e h. grind (arith, nat_tests) }
 
-sound : Sound 30 8 old_rows
+sound : MarksSound 30 8 old_rows
 sound = record {
   vertex_ins = λ r. grind (arith, nat_tests);
   vertex_del = λ r. omega arith;

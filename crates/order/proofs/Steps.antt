@@ -11,7 +11,7 @@ use Rattle.places.specs.declared.place.Call.TheVariants as call
 use Rattle.questions.specs.Graph.{Graph}
 use Rattle.order.specs.Graph.{Feed, asks, spent, both, joined, vertex_answer, edge_answer, answer_to, is_change, changed, after}
 use Rattle.order.specs.Keys.{Key, Bounded, number}
-use Rattle.order.specs.Marks.{Marks, source_end, target_end, change_key, edge_key, Sound}
+use Rattle.order.specs.Marks.{Marks, source_end, target_end, change_key, edge_key, MarksSound}
 use Rattle.order.specs.Rows.{Rows, has_at, edge_at, graph_at, unborn, rows_of}
 use Rattle.order.specs.Finds.{RowChange, no_change, vertex_born, vertex_ends, edge_born, edge_ends, VertexFound, PairThere, EdgeFound, VertexBirth, VertexEnd, EdgeBirth, EdgeEnd, pair_of, Finds}
 use Rattle.order.specs.Finds.{adds_vertex, removes_vertex, adds_edge, removes_edge, finds_vertex, finds_no_vertex, finds_edge, takes_snapshot, reaches, reaches_none, ends_spent}
@@ -38,7 +38,7 @@ does_nothing : (rows : Rows) (k : ℕ) (f : Feed) (a : Answer) → is_change a �
     graph_at rows (suc k) ≡ graph_at rows k → Does rows k f a
 does_nothing rows k f a h e g = (e, g ∙ sym (after_still (graph_at rows k) f a e h))
 
-module _ (bound top : ℕ) (m : Marks) (s : Sound bound top m)
+module _ (bound top : ℕ) (m : Marks) (s : MarksSound bound top m)
     (c : Key) (bounded : Bounded bound c) (high : c.stamp ≤ top) (k : ℕ) (at : number bound c ≡ suc k) where
   abbrev rows : Rows
   rows = rows_of bound top m

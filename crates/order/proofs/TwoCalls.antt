@@ -6,7 +6,7 @@ use Rattle.order.specs.Graph.{empty}
 use Rattle.order.specs.Past.{Belongs}
 use Rattle.order.specs.Order.{OneOrder}
 use Rattle.order.specs.Keys.{Key}
-use Rattle.order.specs.Marks.{Marks, Sound}
+use Rattle.order.specs.Marks.{Marks, MarksSound}
 use Rattle.order.specs.Finds.{vertex_born, no_change, VertexThere, adds_vertex, finds_vertex}
 use Rattle.codes.specs.declared.answer.Answer.TheVariants.{VertexAdded, VertexPresent}
 use Rattle.places.specs.declared.place.Op.TheVariants as op
@@ -49,7 +49,7 @@ rows = record {
   edge_del = λ e. record { stamp = 10; time = 0 };
 }
 
-sound : Sound 20 9 rows
+sound : MarksSound 20 9 rows
 sound = record {
   vertex_ins = λ r. grind (arith, nat_tests);
   vertex_del = λ r. omega arith;

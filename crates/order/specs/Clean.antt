@@ -1,5 +1,5 @@
 -- Clean starts: a run can start with any rows that are bound to one another as the rows of a graph are.
-use Rattle.std.specs.Prelude.{◌≡◌, ℕ, ◌+◌, ◌<◌, Bool, true, false, cond, ◌↔◌, Some, None}
+use Rattle.std.specs.Prelude.{◌≡◌, ℕ, ◌+◌, ◌<◌, Bool, true, false, if◌then◌else◌, ◌↔◌, Some, None}
 use Rattle.questions.specs.Graph.{Graph}
 use Rattle.order.specs.Past.{Past}
 use Rattle.order.specs.Marks.{old_vertex, old_edge}
@@ -19,7 +19,7 @@ pub record Start : Type 0 where
   pub target : ℕ → ℕ
   pub weight : ℕ → ℕ
 
-pub record Clean (s : Start) : Type 0 where
+pub record CleanStart (s : Start) : Type 0 where
   -- of a key one row is there at most, and between two vertex rows one edge row
   pub one_vertex : (r t : ℕ) → s.vertex_there r ≡ true → s.vertex_there t ≡ true → s.key_of r ≡ s.key_of t → r ≡ t
   pub one_edge : (e f : ℕ) → s.edge_there e ≡ true → s.edge_there f ≡ true → s.source e ≡ s.source f → s.target e ≡ s.target f → e ≡ f
@@ -47,13 +47,13 @@ started_run first s = record {
   marks = record {
     vertices = s.vertices;
     key_of = s.key_of;
-    vertex_ins = λ v. cond (s.vertex_there v) old_vertex (record { stamp = first + 2; time = 0 });
+    vertex_ins = λ v. if s.vertex_there v then old_vertex else (record { stamp = first + 2; time = 0 });
     vertex_del = λ v. record { stamp = first + 1; time = 0 };
     edges = s.edges;
     source = s.source;
     target = s.target;
     weight = s.weight;
-    edge_ins = λ e. cond (s.edge_there e) (old_edge first) (record { stamp = first + 2; time = 0 });
+    edge_ins = λ e. if s.edge_there e then old_edge first else (record { stamp = first + 2; time = 0 });
     edge_del = λ e. record { stamp = first + 1; time = 0 };
   };
   key = λ b. None;
@@ -69,4 +69,4 @@ pub record GoodStart (first : ℕ) (s : Start) (g : Graph) : Type 0 where
 
 -- every clean start is good
 abbrev pub CleanStarts : Type 0
-CleanStarts = (first : ℕ) → 0 < first → (s : Start) → Clean s → (g : Graph) → ShowsStart s g → GoodStart first s g
+CleanStarts = (first : ℕ) → 0 < first → (s : Start) → CleanStart s → (g : Graph) → ShowsStart s g → GoodStart first s g

@@ -25,30 +25,30 @@ makes_change no_change = false
 makes_change v = true
 
 -- the stamp and the time of a key
-abbrev pub mark_of : Key → Mark
-mark_of k = record { stamp = k.stamp; time = k.time }
+abbrev pub key_mark : Key → Mark
+key_mark k = record { stamp = k.stamp; time = k.time }
 
 -- the change x comes before the key k, or k is right after it
-abbrev pub Before : ℕ → Key → Mark → Type 0
-Before bound k x = Earlier x (mark_of k) ⊎ ((x.stamp ≡ k.stamp) × (x.time ≡ k.time) × (bound < k.part))
+abbrev pub BeforeKey : ℕ → Key → Mark → Type 0
+BeforeKey bound k x = Earlier x (key_mark k) ⊎ ((x.stamp ≡ k.stamp) × (x.time ≡ k.time) × (bound < k.part))
 
 -- the change x comes after the key k
-abbrev pub After : Key → Mark → Type 0
-After k x = Earlier (mark_of k) x
+abbrev pub AfterKey : Key → Mark → Type 0
+AfterKey k x = Earlier (key_mark k) x
 
 -- what is there at the key k
 module _ (bound : ℕ) (m : Marks) (k : Key) where
   -- vertex row r is born, and has not ended
   pub record VertexThere (r : ℕ) : Type 0 where
     pub row : r < m.vertices
-    pub born : Before bound k (m.vertex_ins r)
-    pub ends : After k (m.vertex_del r)
+    pub born : BeforeKey bound k (m.vertex_ins r)
+    pub ends : AfterKey k (m.vertex_del r)
 
   -- edge row e is born, and has not ended
   pub record EdgeThere (e : ℕ) : Type 0 where
     pub row : e < m.edges
-    pub born : Before bound k (m.edge_ins e)
-    pub ends : After k (m.edge_del e)
+    pub born : BeforeKey bound k (m.edge_ins e)
+    pub ends : AfterKey k (m.edge_del e)
 
   -- rows r and s of the two keys of a pair are there
   pub record PairThere (p : Pair) (r s : ℕ) : Type 0 where
@@ -60,12 +60,12 @@ module _ (bound : ℕ) (m : Marks) (k : Key) where
   -- a row of key i is there, or none is
   abbrev pub VertexFound : ℕ → Bool → Type 0
   VertexFound i true = (r : ℕ) × VertexThere r × (m.key_of r ≡ i)
-  VertexFound i false = (r : ℕ) → r < m.vertices → m.key_of r ≡ i → After k (m.vertex_ins r) ⊎ Before bound k (m.vertex_del r)
+  VertexFound i false = (r : ℕ) → r < m.vertices → m.key_of r ≡ i → AfterKey k (m.vertex_ins r) ⊎ BeforeKey bound k (m.vertex_del r)
 
   -- an edge row bound to the vertex rows r and s is there, or none is
   abbrev pub EdgeFound : ℕ → ℕ → Bool → Type 0
   EdgeFound r s true = (e : ℕ) × EdgeThere e × (m.source e ≡ r) × (m.target e ≡ s)
-  EdgeFound r s false = (e : ℕ) → e < m.edges → m.source e ≡ r → m.target e ≡ s → After k (m.edge_ins e) ⊎ Before bound k (m.edge_del e)
+  EdgeFound r s false = (e : ℕ) → e < m.edges → m.source e ≡ r → m.target e ≡ s → AfterKey k (m.edge_ins e) ⊎ BeforeKey bound k (m.edge_del e)
 
 -- what changes at the key k
 module _ (bound top : ℕ) (m : Marks) (k : Key) where

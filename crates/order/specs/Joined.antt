@@ -1,5 +1,5 @@
 -- Stretches of a run, joined: one order explains both.
-use Rattle.std.specs.Prelude.{ℕ, ◌+◌, ◌-◌, ◌<◌, ◌≤◌, cond, Some, None, Option, nat_lt}
+use Rattle.std.specs.Prelude.{ℕ, ◌+◌, ◌-◌, ◌<◌, ◌≤◌, if◌then◌else◌, Some, None, Option, nat_lt}
 use Rattle.questions.specs.Graph.{Graph}
 use Rattle.order.specs.Past.{Finish, Past, Belongs}
 use Rattle.order.specs.Order.{changes, stamping, AtLeast, StampOrder, Ordered}
@@ -14,11 +14,11 @@ finish_later n (Some f) = Some (record { time = n + f.time; answer = f.answer; p
 -- the past h up to the time n, and the past k from there on, which counts its times from n
 abbrev pub continued : ℕ → Past → Past → Past
 continued n h k = record {
-  begun = λ b. cond (nat_lt b n) (h.begun b) (k.begun (b - n));
-  finish = λ b. cond (nat_lt b n) (h.finish b) (finish_later n (k.finish (b - n)));
-  stamp = λ b. cond (nat_lt b n) (h.stamp b) (k.stamp (b - n));
-  raise = λ b. cond (nat_lt b n) (h.raise b) (k.raise (b - n));
-  lower_end = λ b. cond (nat_lt b n) (h.lower_end b) (k.lower_end (b - n));
+  begun = λ b. if nat_lt b n then h.begun b else k.begun (b - n);
+  finish = λ b. if nat_lt b n then h.finish b else finish_later n (k.finish (b - n));
+  stamp = λ b. if nat_lt b n then h.stamp b else k.stamp (b - n);
+  raise = λ b. if nat_lt b n then h.raise b else k.raise (b - n);
+  lower_end = λ b. if nat_lt b n then h.lower_end b else k.lower_end (b - n);
 }
 
 -- the calls that belong to the order of a past began before the time n; their changes bear stamps up to c, and they raised the clock to c at most

@@ -6,7 +6,7 @@ use Rattle.order.specs.Graph.{Feed, empty, Shows}
 use Rattle.order.specs.Past.{Finish, Past, Belongs, fed}
 use Rattle.order.specs.Order.{Ordered}
 use Rattle.order.specs.Keys.{Key, Bounded, number, Fits}
-use Rattle.order.specs.Marks.{Mark, Old, Marks, Sound, change_key, edge_effect, edge_key}
+use Rattle.order.specs.Marks.{Mark, Old, Marks, MarksSound, change_key, edge_effect, edge_key}
 use Rattle.order.specs.Rows.{graph_at, rows_of, graph_before}
 use Rattle.order.specs.Finds.{RowChange, vertex_born, vertex_ends, edge_born, edge_ends, makes_change, Finds}
 
@@ -67,9 +67,9 @@ pub record CallMarked (h : Past) (run : Marking) (b : ℕ) (k : Key) : Type 0 wh
   pub told : IfSome (h.finish b) (Told (graph_before run.bound run.top run.marks k) (fed h b) answer)
 
 -- the change x is from before the start, or a call that stands at the key k makes it
-pub data Made (run : Marking) (x : Mark) (k : Key) (v : RowChange) : Type 0 where
-  before_start : Old run.clock x → Made run x k v
-  by_call : (b : ℕ) → run.key b ≡ Some k → run.change b ≡ v → Made run x k v
+pub data MadeAtKey (run : Marking) (x : Mark) (k : Key) (v : RowChange) : Type 0 where
+  before_start : Old run.clock x → MadeAtKey run x k v
+  by_call : (b : ℕ) → run.key b ≡ Some k → run.change b ≡ v → MadeAtKey run x k v
 
 -- what is owed
 pub record Marked (h : Past) (run : Marking) : Type 0 where
@@ -84,15 +84,15 @@ pub record Marked (h : Past) (run : Marking) : Type 0 where
   -- no two calls have one time and one third part
   pub apart : (b c : ℕ) (k l : Key) → run.key b ≡ Some k → run.key c ≡ Some l → k.time ≡ l.time → k.part ≡ l.part → b ≡ c
   -- the rows keep their laws, and each change with an effect is made at its key
-  pub sound : Sound run.bound run.top run.marks
+  pub sound : MarksSound run.bound run.top run.marks
   pub vertex_births : (r : ℕ) → (run.marks.vertex_ins r).stamp ≤ run.top →
-      Made run (run.marks.vertex_ins r) (change_key run.bound (run.marks.vertex_ins r)) (vertex_born r)
+      MadeAtKey run (run.marks.vertex_ins r) (change_key run.bound (run.marks.vertex_ins r)) (vertex_born r)
   pub vertex_endings : (r : ℕ) → (run.marks.vertex_del r).stamp ≤ run.top →
-      Made run (run.marks.vertex_del r) (change_key run.bound (run.marks.vertex_del r)) (vertex_ends r)
+      MadeAtKey run (run.marks.vertex_del r) (change_key run.bound (run.marks.vertex_del r)) (vertex_ends r)
   pub edge_births : (e : ℕ) → edge_effect run.top run.marks e (run.marks.edge_ins e) ≡ true →
-      Made run (run.marks.edge_ins e) (edge_key run.bound run.marks e (run.marks.edge_ins e)) (edge_born e)
+      MadeAtKey run (run.marks.edge_ins e) (edge_key run.bound run.marks e (run.marks.edge_ins e)) (edge_born e)
   pub edge_endings : (e : ℕ) → edge_effect run.top run.marks e (run.marks.edge_del e) ≡ true →
-      Made run (run.marks.edge_del e) (edge_key run.bound run.marks e (run.marks.edge_del e)) (edge_ends e)
+      MadeAtKey run (run.marks.edge_del e) (edge_key run.bound run.marks e (run.marks.edge_del e)) (edge_ends e)
 
 -- the greatest key of the start
 abbrev pub start_key : Marking → Key

@@ -1,5 +1,5 @@
 -- Marks: when the changes of the rows became pending, and their stamps; the keys of the changes.
-use Rattle.std.specs.Prelude.{◌≡◌, ℕ, suc, ◌<◌, ◌≤◌, min, Bool, cond, ◌&&◌, ◌≢◌, ◌⊎◌, ◌==◌, nat_le, nat_lt}
+use Rattle.std.specs.Prelude.{◌≡◌, ℕ, suc, ◌<◌, ◌≤◌, min, Bool, if◌then◌else◌, ◌&&◌, ◌≢◌, ◌⊎◌, ◌==◌, nat_le, nat_lt}
 use Rattle.order.specs.Keys.{Key}
 
 -- a change of ins or del of a row: its stamp, and the time at which it became pending. Without a stamp the number is top + 2 where the row
@@ -55,7 +55,7 @@ change_key bound x = record { stamp = x.stamp; time = x.time; part = bound }
 
 -- the time of an edge change x, or of the end d of one of its vertices, if both have one stamp and the end became pending first
 unfoldable pub moved_for : Mark → Mark → ℕ
-moved_for d x = cond ((d.stamp == x.stamp) && nat_lt d.time x.time) d.time x.time
+moved_for d x = if (d.stamp == x.stamp) && nat_lt d.time x.time then d.time else x.time
 
 -- the same for the ends d and f of both vertices
 abbrev pub moved_time : Mark → Mark → Mark → ℕ
@@ -63,7 +63,7 @@ moved_time d f x = min (moved_for d x) (moved_for f x)
 
 -- an edge change that goes back stands just before the end of the vertex, and such changes keep their own order
 unfoldable pub moved_part : ℕ → Mark → Mark → Mark → ℕ
-moved_part bound d f x = cond (nat_lt (moved_time d f x) x.time) x.time bound
+moved_part bound d f x = if nat_lt (moved_time d f x) x.time then x.time else bound
 
 -- the key of an edge change x between vertices that end by d and f
 abbrev pub moved_key : ℕ → Mark → Mark → Mark → Key
@@ -82,7 +82,7 @@ abbrev pub edge_key : ℕ → Marks → ℕ → Mark → Key
 edge_key bound m e x = moved_key bound (source_end m e) (target_end m e) x
 
 -- what every run keeps of its marks
-pub record Sound (bound top : ℕ) (m : Marks) : Type 0 where
+pub record MarksSound (bound top : ℕ) (m : Marks) : Type 0 where
   -- changes became pending at times below the bound
   pub vertex_ins : (r : ℕ) → (m.vertex_ins r).time < bound
   pub vertex_del : (r : ℕ) → (m.vertex_del r).time < bound

@@ -1,5 +1,5 @@
 -- Worked cases: what known mistakes would show, which no order explains, and what is right in its place, which one order explains.
-use Rattle.std.specs.Prelude.{ℕ, Bool, true, false, cond, ◌&&◌, ◌||◌, List, Some, None, Option, ◌==◌}
+use Rattle.std.specs.Prelude.{ℕ, Bool, true, false, if◌then◌else◌, ◌&&◌, ◌||◌, List, Some, None, Option, ◌==◌}
 use Rattle.codes.specs.declared.answer.Answer.{Answer}
 use Rattle.codes.specs.declared.answer.Answer.TheVariants.{VertexAdded, VertexAlready, VertexRemoved, VertexAbsent, VertexPresent, EdgeAdded, EdgeAbsent, EdgePresent, SnapshotTaken}
 use Rattle.places.specs.declared.place.Op.{Op}
@@ -33,10 +33,17 @@ ended time answer = Some (record { time = time; answer = answer; page = empty })
 -- 5, while ins of that row is pending, or later. A snapshot begins at 7, raises the clock from 1, and shows nothing; then ins gets stamp 2
 abbrev pub lost_link : ℕ → Past
 lost_link time = record {
-  begun = λ b. cond (b == 1 || b == 2) (Some (call.Vertex Add 0)) (cond (b == 7) (Some (call.Survey Snapshot)) None);
-  finish = λ b. cond (b == 1) (ended 12 VertexAdded) (cond (b == 2) (ended time VertexAlready) (cond (b == 7) (shown 9 empty) None));
-  stamp = λ b. cond (b == 1) (Some 2) None;
-  raise = λ b. cond (b == 7) (Some 1) None;
+  begun = λ b.
+      if b == 1 || b == 2 then Some (call.Vertex Add 0)
+      else if b == 7 then Some (call.Survey Snapshot)
+      else None;
+  finish = λ b.
+      if b == 1 then ended 12 VertexAdded
+      else if b == 2 then ended time VertexAlready
+      else if b == 7 then shown 9 empty
+      else None;
+  stamp = λ b. if b == 1 then Some 2 else None;
+  raise = λ b. if b == 7 then Some 1 else None;
   lower_end = λ b. false;
 }
 
@@ -45,12 +52,23 @@ lost_link time = record {
 -- absent. The contains meets the row that has ended. It checks again, or answers that the edge is absent
 abbrev pub ended_row : Answer → Past
 ended_row a = record {
-  begun = λ b. cond (b == 1) (Some (of_pair Contains 0)) (cond (b == 2) (Some (call.Vertex Remove 0)) (cond (b == 3) (Some (of_pair Remove 0))
-      (cond (b == 20) (Some (call.Survey Snapshot)) None)));
-  finish = λ b. cond (b == 1) (ended 50 a) (cond (b == 2) (ended 19 VertexRemoved) (cond (b == 3) (ended 40 VertexAbsent)
-      (cond (b == 20) (shown 30 (without_vertex two_joined 0)) None)));
-  stamp = λ b. cond (b == 2) (Some 7) (cond (b == 3) (Some 8) None);
-  raise = λ b. cond (b == 20) (Some 7) None;
+  begun = λ b.
+      if b == 1 then Some (of_pair Contains 0)
+      else if b == 2 then Some (call.Vertex Remove 0)
+      else if b == 3 then Some (of_pair Remove 0)
+      else if b == 20 then Some (call.Survey Snapshot)
+      else None;
+  finish = λ b.
+      if b == 1 then ended 50 a
+      else if b == 2 then ended 19 VertexRemoved
+      else if b == 3 then ended 40 VertexAbsent
+      else if b == 20 then shown 30 (without_vertex two_joined 0)
+      else None;
+  stamp = λ b.
+      if b == 2 then Some 7
+      else if b == 3 then Some 8
+      else None;
+  raise = λ b. if b == 20 then Some 7 else None;
   lower_end = λ b. b == 3;
 }
 
@@ -63,11 +81,21 @@ two_apart = record { has = λ k. k == 0 || k == 1; edge = λ i j. None }
 -- contains then sees the newer edge, or meets the row that is bound to others and answers that the edge is absent
 abbrev pub linked_over : Answer → Past
 linked_over a = record {
-  begun = λ b. cond (b == 1) (Some (of_pair Add 5)) (cond (b == 11) (Some (call.Vertex Remove 0)) (cond (b == 21) (Some (call.Vertex Add 0))
-      (cond (b == 31) (Some (of_pair Add 6)) (cond (b == 61) (Some (of_pair Contains 0)) None))));
-  finish = λ b. cond (b == 1) (ended 60 EdgeAdded) (cond (b == 11) (ended 20 VertexRemoved) (cond (b == 21) (ended 30 VertexAdded)
-      (cond (b == 31) (ended 50 EdgeAdded) (cond (b == 61) (ended 80 a) None))));
-  stamp = λ b. cond (b == 1 || (b == 11 || (b == 21 || b == 31))) (Some 7) None;
+  begun = λ b.
+      if b == 1 then Some (of_pair Add 5)
+      else if b == 11 then Some (call.Vertex Remove 0)
+      else if b == 21 then Some (call.Vertex Add 0)
+      else if b == 31 then Some (of_pair Add 6)
+      else if b == 61 then Some (of_pair Contains 0)
+      else None;
+  finish = λ b.
+      if b == 1 then ended 60 EdgeAdded
+      else if b == 11 then ended 20 VertexRemoved
+      else if b == 21 then ended 30 VertexAdded
+      else if b == 31 then ended 50 EdgeAdded
+      else if b == 61 then ended 80 a
+      else None;
+  stamp = λ b. if b == 1 || (b == 11 || (b == 21 || b == 31)) then Some 7 else None;
   raise = λ b. None;
   lower_end = λ b. false;
 }
@@ -76,8 +104,11 @@ linked_over a = record {
 -- does
 abbrev pub pending_change : Answer → Past
 pending_change a = record {
-  begun = λ b. cond (b == 1) (Some (call.Vertex Add 0)) (cond (b == 5) (Some (call.Vertex Contains 0)) None);
-  finish = λ b. cond (b == 5) (ended 9 a) None;
+  begun = λ b.
+      if b == 1 then Some (call.Vertex Add 0)
+      else if b == 5 then Some (call.Vertex Contains 0)
+      else None;
+  finish = λ b. if b == 5 then ended 9 a else None;
   stamp = λ b. None;
   raise = λ b. None;
   lower_end = λ b. false;
@@ -86,10 +117,32 @@ pending_change a = record {
 -- An add of vertex 0 is finished. A snapshot that begins later shows it, or does not
 abbrev pub finished_add : Graph → Past
 finished_add page = record {
-  begun = λ b. cond (b == 1) (Some (call.Vertex Add 0)) (cond (b == 10) (Some (call.Survey Snapshot)) None);
-  finish = λ b. cond (b == 1) (ended 8 VertexAdded) (cond (b == 10) (shown 15 page) None);
-  stamp = λ b. cond (b == 1) (Some 1) None;
-  raise = λ b. cond (b == 10) (Some 1) None;
+  begun = λ b.
+      if b == 1 then Some (call.Vertex Add 0)
+      else if b == 10 then Some (call.Survey Snapshot)
+      else None;
+  finish = λ b.
+      if b == 1 then ended 8 VertexAdded
+      else if b == 10 then shown 15 page
+      else None;
+  stamp = λ b. if b == 1 then Some 1 else None;
+  raise = λ b. if b == 10 then Some 1 else None;
+  lower_end = λ b. false;
+}
+
+-- A contains of vertex 0 is answered, and an add of the vertex begins later. The contains did not see the vertex, or did
+abbrev pub seen_early : Answer → Past
+seen_early a = record {
+  begun = λ b.
+      if b == 1 then Some (call.Vertex Contains 0)
+      else if b == 10 then Some (call.Vertex Add 0)
+      else None;
+  finish = λ b.
+      if b == 1 then ended 3 a
+      else if b == 10 then ended 16 VertexAdded
+      else None;
+  stamp = λ b. if b == 10 then Some 1 else None;
+  raise = λ b. None;
   lower_end = λ b. false;
 }
 
@@ -97,10 +150,20 @@ finished_add page = record {
 -- add is unfinished, and its change does not count, since the vertex has a lower end; or it counts
 abbrev pub late_birth : Bool → Past
 late_birth lower = record {
-  begun = λ b. cond (b == 1) (Some (of_pair Add 5)) (cond (b == 2) (Some (call.Vertex Remove 0)) (cond (b == 20) (Some (call.Survey Snapshot)) None));
-  finish = λ b. cond (b == 2) (ended 19 VertexRemoved) (cond (b == 20) (shown 30 (without_vertex two_apart 0)) None);
-  stamp = λ b. cond (b == 1) (Some 8) (cond (b == 2) (Some 7) None);
-  raise = λ b. cond (b == 20) (Some 7) None;
+  begun = λ b.
+      if b == 1 then Some (of_pair Add 5)
+      else if b == 2 then Some (call.Vertex Remove 0)
+      else if b == 20 then Some (call.Survey Snapshot)
+      else None;
+  finish = λ b.
+      if b == 2 then ended 19 VertexRemoved
+      else if b == 20 then shown 30 (without_vertex two_apart 0)
+      else None;
+  stamp = λ b.
+      if b == 1 then Some 8
+      else if b == 2 then Some 7
+      else None;
+  raise = λ b. if b == 20 then Some 7 else None;
   lower_end = λ b. b == 1 && lower;
 }
 
@@ -115,5 +178,7 @@ pub record Mistakes : Type 0 where
   pub pending_member : Tells pending_change empty VertexAbsent VertexPresent
   -- leaving a finished call out
   pub left_out : Tells finished_add empty (with_vertex empty 0) empty
+  -- two calls turned round: the one that was finished first stands behind the one that began later
+  pub turned_round : Tells seen_early empty VertexAbsent VertexPresent
   -- counting a change that a lower end has overtaken
   pub overtaken : Tells late_birth two_apart true false

@@ -20,13 +20,13 @@ left_by h g [] = g
 left_by h g (b ∷ bs) = left_by h (after g (fed h b)) bs
 
 -- a call finished with what the graph g answers to it and shows of it
-pub record Right (g : Graph) (f : Feed) (e : Finish) : Type 0 where
+pub record RightFinish (g : Graph) (f : Feed) (e : Finish) : Type 0 where
   pub answer : e.answer ≡ answer_to g f
   pub page : Shows g f e.page
 
 -- a finished call with the answer and the page that the graph g gives; an unfinished one, which changes g unless a vertex of it ended with a lower stamp
 abbrev pub ExplainedBy : Graph → Feed → Bool → Option Finish → Type 0
-ExplainedBy g f lower (Some e) = Right g f e
+ExplainedBy g f lower (Some e) = RightFinish g f e
 ExplainedBy g f lower None = is_change (answer_to g f) ≡ not lower
 
 -- this holds of a call where it stands

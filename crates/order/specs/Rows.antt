@@ -1,5 +1,5 @@
 -- Rows that live from key to key, and the graph that they make at each key. Keys are numbers here.
-use Rattle.std.specs.Prelude.{ℕ, zero, suc, pred, Bool, cond, ◌&&◌, Some, None, Option, is_some, ◌==◌, nat_le, nat_lt}
+use Rattle.std.specs.Prelude.{ℕ, zero, suc, pred, Bool, if◌then◌else◌, ◌&&◌, Some, None, Option, is_some, ◌==◌, nat_le, nat_lt}
 use Rattle.questions.specs.Graph.{Graph}
 use Rattle.order.specs.Keys.{Key, number}
 use Rattle.order.specs.Marks.{Mark, Marks, source_end, target_end, change_key, has_effect, moved_key}
@@ -21,7 +21,7 @@ pub record Rows : Type 0 where
 -- the greatest number below n that passes a test
 unfoldable pub last_below : (ℕ → Bool) → ℕ → Option ℕ
 last_below test zero = None
-last_below test (suc n) = cond (test n) (Some n) (last_below test n)
+last_below test (suc n) = if test n then Some n else last_below test n
 
 module _ (rows : Rows) (k : ℕ) where
   -- vertex row r is there at the key k
@@ -70,7 +70,9 @@ unborn top = suc (suc (suc top))
 module _ (bound top : ℕ) where
   -- the key of an edge change x between vertices that end by d and f, or the far key of n if it has no effect
   unfoldable pub edge_number : ℕ → Mark → Mark → Mark → ℕ
-  edge_number n d f x = cond (has_effect top d f x) (number bound (moved_key bound d f x)) (number bound (far_key bound n))
+  edge_number n d f x =
+      if has_effect top d f x then number bound (moved_key bound d f x)
+      else number bound (far_key bound n)
 
   -- the lives that the marks give to the rows
   abbrev pub rows_of : Marks → Rows

@@ -1,5 +1,5 @@
 -- Worked case: two calls that have one order.
-use Rattle.std.specs.Prelude.{false, cond, [], ◌∷◌, Some, None, ◌==◌}
+use Rattle.std.specs.Prelude.{false, if◌then◌else◌, [], ◌∷◌, Some, None, ◌==◌}
 use Rattle.codes.specs.declared.answer.Answer.TheVariants.{VertexAdded, VertexPresent}
 use Rattle.places.specs.declared.place.Op.TheVariants.{Add, Contains}
 use Rattle.places.specs.declared.place.Call.TheVariants as call
@@ -11,10 +11,15 @@ use Rattle.order.specs.Marked.{Marking, Marked, Fresh}
 -- an add of vertex 0 begins at time 1, makes a change that bears stamp 1, and is finished at 6; a contains begins at 7 and is finished at 9
 abbrev pub two_calls : Past
 two_calls = record {
-  begun = λ b. cond (b == 1) (Some (call.Vertex Add 0)) (cond (b == 7) (Some (call.Vertex Contains 0)) None);
-  finish = λ b. cond (b == 1) (Some (record { time = 6; answer = VertexAdded; page = empty }))
-      (cond (b == 7) (Some (record { time = 9; answer = VertexPresent; page = empty })) None);
-  stamp = λ b. cond (b == 1) (Some 1) None;
+  begun = λ b.
+      if b == 1 then Some (call.Vertex Add 0)
+      else if b == 7 then Some (call.Vertex Contains 0)
+      else None;
+  finish = λ b.
+      if b == 1 then Some (record { time = 6; answer = VertexAdded; page = empty })
+      else if b == 7 then Some (record { time = 9; answer = VertexPresent; page = empty })
+      else None;
+  stamp = λ b. if b == 1 then Some 1 else None;
   raise = λ b. None;
   lower_end = λ b. false;
 }

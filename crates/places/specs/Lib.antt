@@ -1,5 +1,5 @@
 pub mod Marks
-pub mod Outs
+pub mod Flows
 pub mod Moved
 pub mod Calls
 pub mod Touches

@@ -1,5 +1,5 @@
 -- The numbers of ins and del: 0 is not ended, one number is pending, the others are stamps.
-use Rattle.std.specs.Prelude.{ℕ, Bool, true, false, cond, Some, None, Option, ◌==◌, nat_lt}
+use Rattle.std.specs.Prelude.{ℕ, Bool, true, false, if◌then◌else◌, Some, None, Option, ◌==◌, nat_lt}
 use Rattle.places.specs.declared.mark.Mark.{Mark}
 use Rattle.places.specs.declared.mark.Mark.TheVariants.{NotEnded, Pending, Stamp}
 
@@ -7,7 +7,10 @@ abbrev pub pending : ℕ
 pending = 4294967295
 
 abbrev pub mark_of : ℕ → Mark
-mark_of n = cond (n == 0) NotEnded (cond (n == pending) Pending (Stamp n))
+mark_of n =
+    if n == 0 then NotEnded
+    else if n == pending then Pending
+    else Stamp n
 
 abbrev pub stamp_of : Mark → Option ℕ
 stamp_of (Stamp n) = Some n

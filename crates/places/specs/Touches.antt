@@ -66,9 +66,9 @@ abbrev pub settled_field : Purpose → Cell
 settled_field (purpose.Look f l r) = cell.Stamp (look_kind l) f r
 settled_field (purpose.Own f c r) = cell.Stamp (change_kind c) f r
 settled_field (purpose.LostDel c r) = cell.Stamp (change_kind c) Del r
-settled_field (purpose.WonIns i r) = cell.Stamp kind.Vertex Ins r
-settled_field (purpose.BindAgain o b) = cell.Stamp kind.Vertex Del b.source
-settled_field (purpose.Again s o b f) = cell.Stamp kind.Vertex Del (side_row b s)
+settled_field (purpose.WinnerIns i r) = cell.Stamp kind.Vertex Ins r
+settled_field (purpose.SourceAgain o b) = cell.Stamp kind.Vertex Del b.source
+settled_field (purpose.CheckAgain s o b f) = cell.Stamp kind.Vertex Del (side_row b s)
 settled_field (purpose.Compare s b f e x) = cell.Stamp kind.Vertex Del (side_row b s)
 settled_field (purpose.Walk f k r) = cell.Stamp (job_kind k.job) f r
 
@@ -77,7 +77,7 @@ abbrev pub settles : Cell → Stage → Touch
 settles f stage.First = touch.Read f
 settles f stage.Clock = touch.Read cell.Clock
 settles f (stage.Swap n) = touch.Swap f pending n
-settles f stage.Again = touch.Read f
+settles f stage.Reread = touch.Read f
 
 -- a link touches nothing where no row is left
 abbrev pub link_touch : Change → ℕ → Option ℕ → Touch

@@ -1,5 +1,5 @@
 -- To walk a head: read it, settle the first row's ins, go to older rows while ins is above t, settle del of the first row that is not.
-use Rattle.std.specs.Prelude.{ℕ, Bool, true, false, cond, ◌==◌, nat_lt}
+use Rattle.std.specs.Prelude.{ℕ, Bool, true, false, if◌then◌else◌, ◌==◌, nat_lt}
 use Rattle.std.specs.declared.ops.ControlFlow.TheVariants.{Continue}
 use Rattle.layout.specs.declared.names.Field.TheVariants.{Ins, Del}
 use Rattle.layout.specs.Rows.{no_row}
@@ -23,7 +23,7 @@ first_job (Reach i) = job.Start i
 
 -- a walk that comes to no row finds nothing visible
 abbrev pub walked_head : Walk → ℕ → Next
-walked_head k r = cond (r == no_row) (next.Walked k no_row) (next.Out (first (purpose.Walk Ins k r)))
+walked_head k r = if r == no_row then next.Walked k no_row else next.Moved (first (purpose.Walk Ins k r))
 
 abbrev pub above : ℕ → Mark → Bool
 above t NotEnded = false
@@ -32,9 +32,8 @@ above t (Stamp n) = nat_lt t n
 
 abbrev pub walked_ins : Walk → ℕ → Hand → Mark → Next
 walked_ins k r h ins =
-    cond (above h.t ins)
-    (cond (h.older == no_row) (next.Walked k no_row) (next.Out (Continue (place.WalkOlder k h.older))))
-    (next.Out (first (purpose.Walk Del k r)))
+    if above h.t ins then (if h.older == no_row then next.Walked k no_row else next.Moved (Continue (place.WalkOlder k h.older)))
+    else next.Moved (first (purpose.Walk Del k r))
 
 -- visible if del is 0 or above t
 abbrev pub visible : ℕ → Mark → Bool
@@ -43,4 +42,4 @@ visible t Pending = true
 visible t (Stamp n) = nat_lt t n
 
 abbrev pub walked_del : Walk → ℕ → Hand → Mark → Next
-walked_del k r h del = next.Walked k (cond (visible h.t del) r no_row)
+walked_del k r h del = next.Walked k (if visible h.t del then r else no_row)

@@ -7,7 +7,8 @@ ghost use Rattle.places.specs.Calls.{edge_call, call_of, place_first};
 use crate::place::{Call, Look, Op, Pair, Place, Survey};
 use codes::Refusal;
 
-// What a begin names, as the frame has it: the number of the call becomes a `Call` in `call_of`, once.
+/// What a begin names, as the frame has it: the worker, the call by its number 1 to 8, the two keys and the weight. Any numbers may
+/// stand here: the call's becomes a `Call` in `call_of`, once, which refuses those that do not fit.
 #[derive(Clone, Copy, PartialEq, Eq, Debug)]
 pub struct Begin {
     pub worker: u8,
@@ -49,7 +50,9 @@ impl Begin {
         ))
     }
 
-    // The call, or the first of its refusals: no such call, a used key outside, a weight outside. Unused arguments are ignored.
+    /// The call in a run of `keys` keys, or the first of its refusals: `NoSuchCall` (not 1 to 8), `KeyOutside` (a used key is not below
+    /// `keys`, or an edge call names one key twice), `WeightOutside` (an added edge's weight is not 1 to 1,000,000). Arguments that the
+    /// call does not use are ignored.
     pub fn call_of(self, keys: usize) -> Result<Call, Refusal>
         ensures { result ≡ call_of keys self }
     {
@@ -69,7 +72,7 @@ impl Begin {
 }
 
 impl Call {
-    // The place of a call's first turn.
+    /// The place of a call's first turn.
     pub fn first(self) -> Place
         ensures { result ≡ place_first self }
     {

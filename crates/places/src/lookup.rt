@@ -1,7 +1,8 @@
 // What follows once a look, a bind or a check again has decided. Each moves the place, or answers.
 ghost use Rattle.std.specs.Prelude.{◌≡◌};
 ghost use Rattle.std.specs.declared.ops.ControlFlow.TheVariants.{Continue};
-ghost use Rattle.places.specs.Outs.{out_of};
+ghost use Rattle.places.specs.declared.place.Purpose.TheVariants.{Look as AsLook};
+ghost use Rattle.places.specs.Flows.{flow_of};
 ghost use Rattle.places.specs.Rules.{look_found, bound_row, checked, alive, absent, looked, owned, lost_to, first};
 
 use crate::mark::Mark;
@@ -25,7 +26,7 @@ impl Bound {
 impl Place {
     // On to another place.
     pub(crate) fn go(&mut self, place: Place) -> Option<Answer>
-        ensures { out_of self.new result ≡ Continue place }
+        ensures { flow_of self.new result ≡ Continue place }
     {
         *self = place;
         None
@@ -33,61 +34,95 @@ impl Place {
 
     // On to settling a field.
     pub(crate) fn settle(&mut self, purpose: Purpose) -> Option<Answer>
-        ensures { out_of self.new result ≡ first purpose }
+        ensures { flow_of self.new result ≡ first purpose }
     {
-        self.go(Place::Settle(Stage::First, purpose))
+        self.go(Place::Settle {
+            stage: Stage::First,
+            purpose,
+        })
+    }
+
+    // On to settling a field of a row that is looked at.
+    pub(crate) fn look_at(&mut self, field: Field, look: Look, row: u32) -> Option<Answer>
+        ensures { flow_of self.new result ≡ first (AsLook field look row) }
+    {
+        self.settle(Purpose::Look { field, look, row })
     }
 
     // After the look at an edge: only a remove that found it does not check again.
     fn look_found(&mut self, op: Op, bound: Bound, found: Found) -> Option<Answer>
-        ensures { out_of self.new result ≡ look_found op bound found }
+        ensures { flow_of self.new result ≡ look_found op bound found }
     {
         match (op, found) {
-            (Op::Remove, Ok(row)) => self.go(Place::End(Change::Edge(bound), row)),
-            _ => self.settle(Purpose::Again(Side::Source, op, bound, found)),
+            (Op::Remove, Ok(row)) => self.go(Place::End {
+                change: Change::Edge(bound),
+                row,
+            }),
+            _ => self.settle(Purpose::CheckAgain {
+                side: Side::Source,
+                op,
+                bound,
+                found,
+            }),
         }
     }
 
     // After checking again.
     pub(crate) fn checked(&mut self, op: Op, bound: Bound, found: Found) -> Option<Answer>
-        ensures { out_of self.new result ≡ checked op bound found }
+        ensures { flow_of self.new result ≡ checked op bound found }
     {
         match (op, found) {
-            (Op::Add, Err(head)) => self.go(Place::Link(Change::Edge(bound), head)),
+            (Op::Add, Err(head)) => self.go(Place::Link {
+                change: Change::Edge(bound),
+                head,
+            }),
             (Op::Add, Ok(_)) => Some(Answer::EdgeAlready),
             (Op::Contains, Ok(_)) => Some(Answer::EdgePresent),
-            (Op::Remove, Ok(row)) => self.go(Place::End(Change::Edge(bound), row)),
+            (Op::Remove, Ok(row)) => self.go(Place::End {
+                change: Change::Edge(bound),
+                row,
+            }),
             (_, Err(_)) => Some(Answer::EdgeAbsent),
         }
     }
 
     // The look met a row that has not ended.
     fn alive(&mut self, look: Look, row: u32, hand: Hand) -> Option<Answer>
-        ensures { out_of self.new result ≡ alive look row hand }
+        ensures { flow_of self.new result ≡ alive look row hand }
     {
         match look {
             Look::Vertex(Op::Add, _) => Some(Answer::VertexAlready),
-            Look::Vertex(Op::Remove, i) => self.go(Place::End(Change::Vertex(i), row)),
+            Look::Vertex(Op::Remove, i) => self.go(Place::End {
+                change: Change::Vertex(i),
+                row,
+            }),
             Look::Vertex(Op::Contains, _) => Some(Answer::VertexPresent),
-            Look::Source(op, pair) => self.go(Place::Head(Look::Target(op, pair, row))),
-            Look::Target(op, pair, source) => self.settle(Purpose::BindAgain(
+            Look::Source(op, pair) => self.go(Place::Head(Look::Target {
                 op,
-                Bound {
+                pair,
+                source: row,
+            })),
+            Look::Target { op, pair, source } => self.settle(Purpose::SourceAgain {
+                op,
+                bound: Bound {
                     pair,
                     source,
                     target: row,
                 },
-            )),
+            }),
             Look::Edge(op, bound) => self.look_found(op, bound, bound.found(row, hand)),
         }
     }
 
     // There is no row, or it has ended.
     pub(crate) fn absent(&mut self, look: Look, head: u32) -> Option<Answer>
-        ensures { out_of self.new result ≡ absent look head }
+        ensures { flow_of self.new result ≡ absent look head }
     {
         match look {
-            Look::Vertex(Op::Add, i) => self.go(Place::Link(Change::Vertex(i), head)),
+            Look::Vertex(Op::Add, i) => self.go(Place::Link {
+                change: Change::Vertex(i),
+                head,
+            }),
             Look::Edge(op, bound) => self.look_found(op, bound, Err(head)),
             _ => Some(Answer::VertexAbsent),
         }
@@ -95,7 +130,7 @@ impl Place {
 
     // The row's del is settled.
     pub(crate) fn looked(&mut self, look: Look, row: u32, hand: Hand, del: Mark) -> Option<Answer>
-        ensures { out_of self.new result ≡ looked look row hand del }
+        ensures { flow_of self.new result ≡ looked look row hand del }
     {
         if del.is_ended() {
             self.absent(look, row)
@@ -112,34 +147,34 @@ impl Place {
         row: u32,
         mark: Mark,
     ) -> Option<Answer>
-        ensures { out_of self.new result ≡ owned field change row mark }
+        ensures { flow_of self.new result ≡ owned field change row mark }
     {
         match (change, field) {
             (Change::Vertex(_), Field::Ins) => Some(Answer::VertexAdded),
             (Change::Vertex(_), Field::Del) => Some(Answer::VertexRemoved),
-            (Change::Edge(bound), _) => self.settle(Purpose::Compare(
-                Side::Source,
+            (Change::Edge(bound), _) => self.settle(Purpose::Compare {
+                side: Side::Source,
                 bound,
                 field,
                 row,
-                // No stamp counts as 0, as in `owned`.
-                mark.stamp().unwrap_or(0),
-            )),
+                // No stamp counts as 0, as in the contract's `owned`.
+                stamp: mark.stamp().unwrap_or(0),
+            }),
         }
     }
 
     // Another worker's end of the row bears its stamp.
     pub(crate) fn lost_to(&mut self, change: Change, row: u32) -> Option<Answer>
-        ensures { out_of self.new result ≡ lost_to change row }
+        ensures { flow_of self.new result ≡ lost_to change row }
     {
         match change {
             Change::Vertex(_) => Some(Answer::VertexAbsent),
-            Change::Edge(bound) => self.settle(Purpose::Again(
-                Side::Source,
-                Op::Remove,
+            Change::Edge(bound) => self.settle(Purpose::CheckAgain {
+                side: Side::Source,
+                op: Op::Remove,
                 bound,
-                Err(row),
-            )),
+                found: Err(row),
+            }),
         }
     }
 }

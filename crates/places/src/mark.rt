@@ -1,10 +1,11 @@
 // The numbers of ins and del.
 ghost use Rattle.std.specs.Prelude.{◌≡◌};
-ghost use Rattle.places.specs.Marks.{mark_of, stamp_of, is_ended, is_below};
+ghost use Rattle.places.specs.Marks.{mark_of, stamp_of, is_ended};
 
+/// The number in ins or del of a change that has no stamp yet.
 pub const PENDING: u32 = 4_294_967_295;
 
-// In del, 0 is not ended; any other number that is not pending is a stamp.
+/// What a number in ins or del says. In del, 0 is not ended; any other number that is not pending is a stamp.
 #[derive(Clone, Copy, PartialEq, Eq, Debug)]
 pub enum Mark {
     NotEnded,
@@ -25,6 +26,7 @@ impl From<u32> for Mark {
 }
 
 impl Mark {
+    /// The stamp, where there is one.
     pub fn stamp(self) -> Option<u32>
         ensures { result ≡ stamp_of self }
     {
@@ -34,17 +36,10 @@ impl Mark {
         }
     }
 
-    // Of a del: the row has ended.
+    /// Of a del: whether the row has ended, with a stamp or pending.
     pub fn is_ended(self) -> bool
         ensures { result ≡ is_ended self }
     {
         self != Mark::NotEnded
-    }
-
-    // Of a del: the row has ended with a stamp below x.
-    pub fn is_below(self, x: u32) -> bool
-        ensures { result ≡ is_below x self }
-    {
-        matches!(self, Mark::Stamp(n) if n < x)
     }
 }

@@ -20,37 +20,65 @@ impl Walk {
 }
 
 impl Place {
-    // The kind of row that a link takes.
+    /// The kind of row that a link takes, where the place is at one.
     pub fn link_kind(&self) -> Option<Kind>
         ensures { result ≡ link_kind self.now }
     {
         match *self {
-            Place::Link(change, _) => Some(change.kind()),
+            Place::Link { change, .. } => Some(change.kind()),
             _ => None,
         }
     }
 
-    // The row whose older may be wanted.
+    /// The row whose older may be wanted, with its kind.
     pub fn older_row(&self) -> Option<(Kind, u32)>
         ensures { result ≡ older_row self.now }
     {
         match *self {
-            Place::Settle(_, Purpose::Walk(Field::Ins, walk, row)) => Some((walk.job.kind(), row)),
-            Place::WalkOlder(walk, row) => Some((walk.job.kind(), row)),
+            Place::Settle {
+                purpose: Purpose::Walk {
+                    field: Field::Ins,
+                    walk,
+                    row,
+                },
+                ..
+            } => Some((walk.job.kind(), row)),
+            Place::WalkOlder { walk, row } => Some((walk.job.kind(), row)),
             _ => None,
         }
     }
 
-    // The edge row whose source, target or weight may be wanted.
+    /// The edge row whose source, target or weight may be wanted; 0 if there is none.
     pub fn edge_row(&self) -> u32
         ensures { result ≡ edge_row self.now }
     {
         match *self {
-            Place::Settle(_, Purpose::Look(Field::Del, Look::Edge(_, _), row)) => row,
-            Place::Settle(_, Purpose::Walk(Field::Ins, walk, _)) => walk.edge_row(NO_ROW),
-            Place::Settle(_, Purpose::Walk(Field::Del, walk, row)) => walk.edge_row(row),
+            Place::Settle {
+                purpose: Purpose::Look {
+                    field: Field::Del,
+                    look: Look::Edge(_, _),
+                    row,
+                },
+                ..
+            } => row,
+            Place::Settle {
+                purpose: Purpose::Walk {
+                    field: Field::Ins,
+                    walk,
+                    ..
+                },
+                ..
+            } => walk.edge_row(NO_ROW),
+            Place::Settle {
+                purpose: Purpose::Walk {
+                    field: Field::Del,
+                    walk,
+                    row,
+                },
+                ..
+            } => walk.edge_row(row),
             Place::WalkHead(walk) => walk.edge_row(NO_ROW),
-            Place::WalkOlder(walk, _) => walk.edge_row(NO_ROW),
+            Place::WalkOlder { walk, .. } => walk.edge_row(NO_ROW),
             _ => NO_ROW,
         }
     }

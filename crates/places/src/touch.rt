@@ -23,7 +23,7 @@ impl Look {
         match self {
             Look::Vertex(_, i) => Head::Vertex(i),
             Look::Source(_, pair) => Head::Vertex(pair.from),
-            Look::Target(_, pair, _) => Head::Vertex(pair.to),
+            Look::Target { pair, .. } => Head::Vertex(pair.to),
             Look::Edge(_, bound) => Head::Edge(bound.pair.from, bound.pair.to),
         }
     }
@@ -36,6 +36,7 @@ impl Look {
 }
 
 impl Change {
+    /// The head of what is changed: of a key or of a pair.
     pub fn head(self) -> Head
         ensures { result ≡ change_head self }
     {
@@ -45,6 +46,7 @@ impl Change {
         }
     }
 
+    /// The kind of its rows.
     pub fn kind(self) -> Kind
         ensures { result ≡ change_kind self }
     {
@@ -58,11 +60,12 @@ impl Job {
     {
         match self {
             Job::Key(i) | Job::Start(i) => Head::Vertex(i),
-            Job::Pair(leg) => Head::Edge(leg.from, leg.to),
-            Job::Target(leg, _) => Head::Vertex(leg.to),
+            Job::Pair(pair) => Head::Edge(pair.from, pair.to),
+            Job::Target(pair, _) => Head::Vertex(pair.to),
         }
     }
 
+    /// The kind of the rows that are walked.
     pub fn kind(self) -> Kind
         ensures { result ≡ head_kind (job_head self) }
     {
@@ -76,15 +79,19 @@ impl Purpose {
         ensures { result ≡ settled_field self }
     {
         match self {
-            Purpose::Look(field, look, row) => Cell::Stamp(look.kind(), field, row),
-            Purpose::Own(field, change, row) => Cell::Stamp(change.kind(), field, row),
-            Purpose::LostDel(change, row) => Cell::Stamp(change.kind(), Field::Del, row),
-            Purpose::WonIns(_, row) => Cell::Stamp(Kind::Vertex, Field::Ins, row),
-            Purpose::BindAgain(_, bound) => Cell::Stamp(Kind::Vertex, Field::Del, bound.source),
-            Purpose::Again(side, _, bound, _) | Purpose::Compare(side, bound, _, _, _) => {
+            Purpose::Look { field, look, row } => Cell::Stamp(look.kind(), field, row),
+            Purpose::Own { field, change, row } => Cell::Stamp(change.kind(), field, row),
+            Purpose::LostDel { change, row } => Cell::Stamp(change.kind(), Field::Del, row),
+            Purpose::WinnerIns { row, .. } => Cell::Stamp(Kind::Vertex, Field::Ins, row),
+            Purpose::SourceAgain { bound, .. } => Cell::Stamp(
+                Kind::Vertex,
+                Field::Del,
+                bound.source,
+            ),
+            Purpose::CheckAgain { side, bound, .. } | Purpose::Compare { side, bound, .. } => {
                 Cell::Stamp(Kind::Vertex, Field::Del, bound.row(side))
             }
-            Purpose::Walk(field, walk, row) => Cell::Stamp(walk.job.kind(), field, row),
+            Purpose::Walk { field, walk, row } => Cell::Stamp(walk.job.kind(), field, row),
         }
     }
 }
@@ -94,34 +101,38 @@ impl Stage {
         ensures { result ≡ settles field self }
     {
         match self {
-            Stage::First | Stage::Again => Touch::Read(field),
+            Stage::First | Stage::Reread => Touch::Read(field),
             Stage::Clock => Touch::Read(Cell::Clock),
-            Stage::Swap(stamp) => Touch::Swap(field, PENDING, stamp),
+            Stage::Swap(stamp) => Touch::Swap {
+                cell: field,
+                old: PENDING,
+                new: stamp,
+            },
         }
     }
 }
 
 impl Place {
-    // `spare` is the worker's next row of the kind that it links.
+    /// The touch of the place's next turn. `spare` is the worker's next row of the kind that it links: a link with none touches nothing.
     pub fn touch(&self, spare: Option<u32>) -> Touch
         ensures { result ≡ touch_of self.now spare }
     {
         match *self {
             Place::Idle => Touch::Nothing,
             Place::Head(look) => Touch::Read(Cell::Head(look.head())),
-            Place::Settle(stage, purpose) => stage.touch(purpose.field()),
-            Place::Link(change, head) => {
-                spare.map_or(Touch::Nothing, |row| Touch::Link(change, head, row))
+            Place::Settle { stage, purpose } => stage.touch(purpose.field()),
+            Place::Link { change, head } => {
+                spare.map_or(Touch::Nothing, |row| Touch::Link { change, head, row })
             }
-            Place::End(change, row) => Touch::Swap(
-                Cell::Stamp(change.kind(), Field::Del, row),
-                0,
-                PENDING,
-            ),
+            Place::End { change, row } => Touch::Swap {
+                cell: Cell::Stamp(change.kind(), Field::Del, row),
+                old: 0,
+                new: PENDING,
+            },
             Place::LostHead(key) => Touch::Read(Cell::Head(Head::Vertex(key))),
             Place::Raise(_) => Touch::Raise,
             Place::WalkHead(walk) => Touch::Read(Cell::Head(walk.job.head())),
-            Place::WalkOlder(walk, row) => Touch::Read(Cell::Stamp(
+            Place::WalkOlder { walk, row } => Touch::Read(Cell::Stamp(
                 walk.job.kind(),
                 Field::Ins,
                 row,

@@ -1,6 +1,6 @@
 -- What finished calls have done.
 use Rattle.std.proofs.Common.{◌≡◌, ℕ, zero, suc, ◌+◌, ◌<◌, ◌≤◌, true, false, length, Some, None, Ok, Option, IsSome, ◌⊎◌, refl, sym, ◌∙◌, ap, subst, inl, inr, arith}
-use Rattle.std.proofs.lemmas.Bool.{cases_eq, cases_lt, cases_Bool, eq-eqb, ne_eqb, eqb-true, lt-ltb, false≢true}
+use Rattle.std.proofs.lemmas.Bool.{cases_eq, cases_lt, cases_Bool, eq-eqb, ne_eqb, lt-ltb, false≢true}
 use Rattle.codes.specs.declared.answer.Answer.{Answer}
 use Rattle.codes.specs.declared.answer.Answer.TheVariants.{VertexAlready, VertexAbsent, VertexPresent, EdgeAlready, EdgeAbsent, EdgePresent, RowsSpent, ClockSpent}
 use Rattle.codes.specs.declared.refusal.Refusal.{Refusal}
@@ -26,41 +26,41 @@ use Rattle.places.specs.Moved.{Next}
 use Rattle.places.specs.Nexts.{next_of}
 use Rattle.places.specs.Calls.{place_first}
 use Rattle.places.specs.Touches.{change_kind}
-use Rattle.stepper.specs.declared.request.Request.{Request}
-use Rattle.stepper.specs.declared.request.Request.TheVariants as request
-use Rattle.stepper.specs.declared.request.Reply.{Reply}
-use Rattle.stepper.specs.declared.request.Reply.TheVariants as reply
-use Rattle.stepper.specs.declared.worker.Worker.{Worker}
-use Rattle.stepper.specs.Effects.{got_of}
-use Rattle.stepper.specs.Workers.{followed}
-use Rattle.stepper.specs.Turns.{worker_at, cell_at, hand_at, touch_at, next_at, followed_at, answer_at}
-use Rattle.stepper.specs.Requests.{turn_refused, unless_refused, answered_or, reply_of}
+use Rattle.machine.specs.declared.request.Request.{Request}
+use Rattle.machine.specs.declared.request.Request.TheVariants as request
+use Rattle.machine.specs.declared.request.Reply.{Reply}
+use Rattle.machine.specs.declared.request.Reply.TheVariants as reply
+use Rattle.machine.specs.declared.worker.Worker.{Worker}
+use Rattle.machine.specs.Effects.{got_of}
+use Rattle.machine.specs.Workers.{followed}
+use Rattle.machine.specs.Turns.{worker_at, cell_at, hand_at, touch_at, next_at, followed_at, answer_at}
+use Rattle.machine.specs.Requests.{turn_refused, unless_refused, answered_or, reply_of}
 use Rattle.laws.specs.Changes.{Surveys, Changes, Changes.keeps, Changes.ticks, Changes.links, Changes.stamps, Changes.ends, Changes.fills, Changes.writes}
-use Rattle.laws.specs.Sound.{RunsSound, RunsKeepLaws}
-use Rattle.laws.specs.Stamps.{RunsStamp}
 use Rattle.order.specs.Graph.{is_change}
 use Rattle.order.specs.Past.{Finish}
 use Rattle.order.specs.Seen as timed
-use Rattle.runs.specs.Runs.{Run}
+use Rattle.runs.specs.Runs.{RunInTime}
 use Rattle.runs.specs.Views.{clock_at, mark_at, place_at, LinkedAt}
 use Rattle.runs.specs.Seen.{seen as sights, page_graph, open_at, sight_of as timed_sight}
-use Rattle.runs.specs.Steps.{RunsStep}
-use Rattle.runs.specs.Times.{RunsLast}
-use Rattle.runs.specs.Purposes.{Made, InCall, place_made}
+use Rattle.runs.specs.Purposes.{MadeChange, InCall, place_made}
 use Rattle.runs.specs.Known.{OwnChange}
-use Rattle.runs.specs.Reasons.{Why, Why.vertex_made, Why.vertex_here, Why.vertex_won, Why.vertex_gone, Why.vertex_ended, Why.ended_below, Why.edge_made, Why.edge_here, Why.edge_missed, Why.rows_spent, Right, BegunBy, WorkerKnows, WorkerKnows.free, WorkerKnows.busy, AnswerRight, RunsKnow}
-use Rattle.runs.specs.Sights.{RunsSeen}
-use Rattle.runs.specs.Once.{RunsChangeOnce}
+use Rattle.runs.specs.Reasons.{Why, Why.vertex_made, Why.vertex_here, Why.vertex_won, Why.vertex_gone, Why.vertex_ended, Why.ended_below, Why.edge_made, Why.edge_here, Why.edge_missed, Why.rows_spent, HasReason, BegunBy, WorkerKnows, WorkerKnows.free, WorkerKnows.busy, AnswerRight}
 use Rattle.runs.proofs.Turns.{next_is, worker_after, others_after}
+use Rattle.laws.proofs.Taken.{turn_taken, begin_taken, begun_worker, begun_others}
 use Rattle.runs.proofs.Opens.{runs_keeps, answer_closes}
-use Rattle.runs.proofs.Steps.{StepCase, StepCase.keeps, StepCase.begins, StepCase.turns, begin_taken, begun_worker, begun_others, turn_taken, sound_at, sizes_at, case_at, here, within}
-use Rattle.promise.specs.Deeds.{RaiseEvent, RunsStampsTold}
+use Rattle.runs.proofs.Steps.{StepCase, StepCase.rests as rest, StepCase.begins, StepCase.turns, sound_at, sizes_at, case_at, here, within}
+use Rattle.promise.specs.Deeds.{RaiseEvent}
 use Rattle.promise.specs.Bridges.{stamp_at}
 use Rattle.promise.specs.Answers.{Surveyed, FinishTold, RunsAnswersTold}
-use Rattle.promise.proofs.Deeds.{Taken, taken_at, changes_at, no_settled_clock}
+use Rattle.promise.proofs.Deeds.{Taken, taken_at, changes_at}
 use Rattle.promise.proofs.DeedRuns.{opened_at, same_begin, raised}
 use Rattle.promise.proofs.Pages.{survey_call, place_surveys, idle_after}
 use Rattle.promise.proofs.Surveys.{JobFor, Proper, WalkNext, on_head, on_older, on_settle, AfterFor, walk_after, AfterRaise, raise_after}
+use Rattle.runs.proofs.Knows.{runs_know as know}
+use Rattle.promise.proofs.Stamps.{stamps_told as told}
+use Rattle.runs.proofs.Times.{runs_last as last}
+use Rattle.surveys.proofs.Raises.{no_settled_clock}
+use Rattle.order.proofs.Seen.{is_open_true}
 
 none_some : {X P : Type 0} (x : X) → None ≡ Some x → P
 none_some x e = absurd cc
@@ -69,17 +69,17 @@ some_same : {X : Type 0} (x y : X) → Some x ≡ Some y → x ≡ y
 some_same x y e = cc
 
 -- a call that a worker has open it had open since it began
-module _ (s : ℕ → timed.Sight) (w b : ℕ) where
-  open_before : (k : ℕ) (x : timed.Sight) (before : Option ℕ) → b < k → timed.open_after x k w before ≡ Some b → before ≡ Some b
-  open_before k (timed.Sight.begins v c) before l e = elim (cases_eq v w) [
+module _ (s : ℕ → timed.CallSight) (w b : ℕ) where
+  open_before : (k : ℕ) (x : timed.CallSight) (before : Option ℕ) → b < k → timed.open_after x k w before ≡ Some b → before ≡ Some b
+  open_before k (timed.CallSight.begins v c) before l e = elim (cases_eq v w) [
     | inl q ↦ (let f : Some k ≡ Some b = rw (eq-eqb v w q) at e in let g = some_same k b f in absurd (omega arith))
     | inr q ↦ rw (ne_eqb v w q) at e
   ]
-  open_before k (timed.Sight.finishes v a p) before l e = elim (cases_eq v w) [
+  open_before k (timed.CallSight.finishes v a p) before l e = elim (cases_eq v w) [
     | inl q ↦ (let f : None ≡ Some b = rw (eq-eqb v w q) at e in none_some b f)
     | inr q ↦ rw (ne_eqb v w q) at e
   ]
-  open_before k timed.Sight.neither before l e = e
+  open_before k timed.CallSight.neither before l e = e
 
   pub open_still : (t k : ℕ) → b < t → t ≤ k → timed.open_call s k w ≡ Some b → timed.open_call s t w ≡ Some b
   unfolding timed.open_call
@@ -110,9 +110,9 @@ surveys_or_proper (place.Raise v) = inl tt
 surveys_or_proper (place.WalkHead k) = inl tt
 surveys_or_proper (place.WalkOlder k r) = inl tt
 
-module _ (sound : RunsSound) (keep : RunsKeepLaws) (stamp : RunsStamp) (step : RunsStep) (know : RunsKnow) (seen : RunsSeen) (once : RunsChangeOnce) (R : Run) where
+module _ (R : RunInTime) where
   abbrev TakenAt : ℕ → ℕ → Type 0
-  TakenAt k w = Taken sound keep stamp step know R k w
+  TakenAt k w = Taken R k w
 
   -- a turn of a snapshot or reach
   pub data SurveyTurn (k u : ℕ) (c : Call) : Type 0 where
@@ -137,7 +137,7 @@ module _ (sound : RunsSound) (keep : RunsKeepLaws) (stamp : RunsStamp) (step : R
   place_after : (k u : ℕ) → TakenAt k u → place_at R (suc k) u ≡ (followed_at (R.state k) u).worker.place
   place_after k u t =
       ap (λ s. (worker_at s u).place) t.next
-      ∙ ap (λ (v : Worker). v.place) (worker_after (R.state k) u (sound_at sound keep stamp R k) (here sound keep stamp R k u t.asked t.accepted t.next))
+      ∙ ap (λ (v : Worker). v.place) (worker_after (R.state k) u (sound_at R k) (here R k u t.asked t.accepted t.next))
 
   -- a turn of a snapshot or reach that does not answer leads to a proper place
   turn_proper : (k u : ℕ) (c : Call) → SurveyTurn k u c → answer_at (R.state k) u ≡ None → Proper (followed_at (R.state k) u).worker.place
@@ -156,31 +156,31 @@ module _ (sound : RunsSound) (keep : RunsKeepLaws) (stamp : RunsStamp) (step : R
       running n q (busy b c o g i x) = (
           let opens : open_at R (suc k) u ≡ open_at R k u = runs_keeps R k u t.asked u (ap (reply_of (R.state k)) (sym t.asked) ∙ t.reply ∙ ap (λ a. answered_or (Ok a)) n) in
           let (v, is) = survey_call (place_at R (suc k) u) c i q in
-          let was = opened_at sound keep stamp step know once R k u b t.within (sym opens ∙ o) in
-          let same = (same_begin sound keep stamp step know once R was.begun g).1 in
+          let was = opened_at R k u b t.within (sym opens ∙ o) in
+          let same = (same_begin R was.begun g).1 in
           let before = place_surveys (place_at R k u) v (subst (InCall (place_at R k u)) (same ∙ is) was.place) in
           subst Proper (sym (place_after k u t)) (turn_proper k u was.call (survey_turn k u was.call was.place before a) n))
 
       answered : (x : Option Answer) → answer_at (R.state k) u ≡ x → Proper (place_at R (suc k) u)
-      answered (Some x) e = idle_proper (place_at R (suc k) u) (idle_after sound keep stamp step know seen once R k u t x e)
+      answered (Some x) e = idle_proper (place_at R (suc k) u) (idle_after R k u t x e)
       answered None e = elim (surveys_or_proper (place_at R (suc k) u)) [ inl q ↦ running e q ((know R).workers (suc k) u t.within) | inr p ↦ p ]
 
   proper_next : (k w : ℕ) → w < R.sizes.workers → Proper (place_at R k w) → Proper (place_at R (suc k) w)
-  proper_next k w l p = go (case_at sound keep stamp R k)
+  proper_next k w l p = go (case_at R k)
     where
       go : StepCase (R.state k) (R.request k) (R.state (suc k)) → Proper (place_at R (suc k) w)
-      go (keeps x f s) = subst Proper (sym (ap (λ s. (worker_at s w).place) s)) p
+      go (rest f s) = subst Proper (sym (s.workers w).place) p
       go (begins b c q a f s) = (
           let within = (begin_taken (R.state k) b c a).within in
           elim (cases_eq w b.worker) [
-            | inl i ↦ subst Proper (sym (ap (place_at R (suc k)) i ∙ ap (λ s. (worker_at s b.worker).place) s ∙ ap (λ (u : Worker). u.place) (begun_worker (R.state k) (sound_at sound keep stamp R k) b.worker within c))) (first_proper c)
-            | inr i ↦ subst Proper (sym (ap (λ s. (worker_at s w).place) s ∙ ap (λ (u : Worker). u.place) (begun_others (R.state k) (sound_at sound keep stamp R k) b.worker within c w i))) p
+            | inl i ↦ subst Proper (sym (ap (place_at R (suc k)) i ∙ ap (λ s. (worker_at s b.worker).place) s ∙ ap (λ (u : Worker). u.place) (begun_worker (R.state k) (sound_at R k) b.worker within c))) (first_proper c)
+            | inr i ↦ subst Proper (sym (ap (λ s. (worker_at s w).place) s ∙ ap (λ (u : Worker). u.place) (begun_others (R.state k) (sound_at R k) b.worker within c w i))) p
           ])
       go (turns u q n f s) = (
-          let t : TakenAt k u = record { asked = q; within = within sound keep stamp R k u q n s; accepted = n; reply = f; next = s } in
+          let t : TakenAt k u = record { asked = q; within = within R k u q n s; accepted = n; reply = f; next = s } in
           elim (cases_eq w u) [
             | inl i ↦ subst (λ w. Proper (place_at R (suc k) w)) (sym i) (own_proper k u t (subst (λ w. Proper (place_at R k w)) i p))
-            | inr i ↦ subst Proper (sym (ap (λ s. (worker_at s w).place) t.next ∙ ap (λ (v : Worker). v.place) (others_after (R.state k) u (sound_at sound keep stamp R k) (here sound keep stamp R k u t.asked t.accepted t.next) w i))) p
+            | inr i ↦ subst Proper (sym (ap (λ s. (worker_at s w).place) t.next ∙ ap (λ (v : Worker). v.place) (others_after (R.state k) u (sound_at R k) (here R k u t.asked t.accepted t.next) w i))) p
           ])
 
   pub proper_at : (k w : ℕ) → w < R.sizes.workers → Proper (place_at R k w)
@@ -203,34 +203,25 @@ module _ (sound : RunsSound) (keep : RunsKeepLaws) (stamp : RunsStamp) (step : R
   finished_later : (k b : ℕ) (f : Finish) → FinishedAt k b f → FinishedAt (suc k) b f
   finished_later k b f x = record { worker = x.worker; before = omega (arith, x.before); asked = x.asked; reply = x.reply; whose = x.whose; page = x.page }
 
-  is_open_same : (o : Option ℕ) (b : ℕ) → timed.is_open o b ≡ true → o ≡ Some b
-  is_open_same None b e = absurd (false≢true e)
-  is_open_same (Some a) b e = ap (λ x. Some x) (eqb-true a b e)
-
   finished_next : (k b : ℕ) (f : Finish) (before : Option Finish) → (before ≡ Some f → FinishedAt k b f) → (q : Request) (r : Reply) → R.request k ≡ q → reply_of (R.state k) (R.request k) ≡ r →
       timed.finish_after (open_at R k) (timed_sight (page_graph (R.state (suc k))) q r) k b before ≡ Some f → FinishedAt (suc k) b f
   finished_next k b f before earlier (request.Turn w) (reply.Answered a) i y e = elim (cases_Bool (timed.is_open (open_at R k w) b)) [
     | inl z ↦ (
-        let told : Finish = record { time = k; answer = a; page = page_graph (R.state (suc k)) w } in
-        let h : Some told ≡ Some f = rw z at e in
-        let here : FinishedAt (suc k) b told = record {
+        let was : Finish = record { time = k; answer = a; page = page_graph (R.state (suc k)) w } in
+        let h : Some was ≡ Some f = rw z at e in
+        let here : FinishedAt (suc k) b was = record {
           worker = w;
           before = omega arith;
           asked = i;
           reply = ap (reply_of (R.state k)) (sym i) ∙ y;
-          whose = is_open_same (open_at R k w) b z;
+          whose = is_open_true (open_at R k w) b z;
           page = refl;
         } in
-        subst (FinishedAt (suc k) b) (some_same told f h) here)
+        subst (FinishedAt (suc k) b) (some_same was f h) here)
     | inr z ↦ finished_later k b f (earlier (rw z at e))
   ]
-  finished_next k b f before earlier (request.Turn w) reply.Done i y e = finished_later k b f (earlier e)
-  finished_next k b f before earlier (request.Turn w) reply.Running i y e = finished_later k b f (earlier e)
-  finished_next k b f before earlier (request.Turn w) (reply.Refused x) i y e = finished_later k b f (earlier e)
   finished_next k b f before earlier (request.Begin x) reply.Done i y e = finished_later k b f (earlier e)
-  finished_next k b f before earlier (request.Begin x) reply.Running i y e = finished_later k b f (earlier e)
-  finished_next k b f before earlier (request.Begin x) (reply.Answered a) i y e = finished_later k b f (earlier e)
-  finished_next k b f before earlier (request.Begin x) (reply.Refused a) i y e = finished_later k b f (earlier e)
+  finished_next k b f before earlier q r i y e = finished_later k b f (earlier e)
 
   pub finished_at : (k b : ℕ) (f : Finish) → timed.finish_by (sights R) k b ≡ Some f → FinishedAt k b f
   unfolding timed.finish_by
@@ -256,7 +247,7 @@ module _ (sound : RunsSound) (keep : RunsKeepLaws) (stamp : RunsStamp) (step : R
       record {
         right = r;
         same = some_same r.began b (sym r.whose ∙ x.whose);
-        within = subst (λ (z : Sizes). x.worker < z.workers) (sizes_at sound keep stamp R f.time) (turn_taken (R.state f.time) x.worker n);
+        within = subst (λ (z : Sizes). x.worker < z.workers) (sizes_at R f.time) (turn_taken (R.state f.time) x.worker n);
         answer = a;
       }
 
@@ -275,25 +266,25 @@ module _ (sound : RunsSound) (keep : RunsKeepLaws) (stamp : RunsStamp) (step : R
 
   -- a raise that moves the clock gets its number
   raise_gets : (k u : ℕ) → TakenAt k u → ¬ (clock_at R (suc k) ≡ clock_at R k) → got_of (R.state k).sizes (R.state k).cells touch.Raise ≡ None → ⊥
-  raise_gets k u t moved none = go _ _ (changes_at sound keep stamp step know R k u t cell.Clock tt) refl refl
+  raise_gets k u t moved none = go _ _ (changes_at R k u t cell.Clock tt) refl refl
     where
       below : clock_at R k < (R.state k).sizes.top → ⊥
       below l = (
           let s = R.state k in
-          let room : index_of s.sizes cell.Clock < length s.cells = omega (arith, index_lt s.sizes cell.Clock tt, (sound_at sound keep stamp R k).cells) in
+          let room : index_of s.sizes cell.Clock < length s.cells = omega (arith, index_lt s.sizes cell.Clock tt, (sound_at R k).cells) in
           let x : Some (clock_at R k) ≡ None = sym (rw (lt-ltb (index_of s.sizes cell.Clock) (length s.cells) room, lt-ltb (clock_at R k) s.sizes.top l) refl) ∙ none in
           none_some (clock_at R k) (sym x))
 
       go : (x y : ℕ) → Changes (R.state k) u cell.Clock x y → x ≡ cell_at R.sizes (R.state k).cells cell.Clock → y ≡ cell_at R.sizes (R.state (suc k)).cells cell.Clock → ⊥
-      go x y (keeps e) i j = moved (ap (λ z. cell_at z (R.state (suc k)).cells cell.Clock) (sizes_at sound keep stamp R (suc k)) ∙ sym j ∙ e ∙ i ∙ ap (λ z. cell_at z (R.state k).cells cell.Clock) (sym (sizes_at sound keep stamp R k)))
-      go x y (ticks v e c l q) i j = below (subst (λ n. n < (R.state k).sizes.top) (i ∙ ap (λ z. cell_at z (R.state k).cells cell.Clock) (sym (sizes_at sound keep stamp R k))) l)
+      go x y (keeps e) i j = moved (ap (λ z. cell_at z (R.state (suc k)).cells cell.Clock) (sizes_at R (suc k)) ∙ sym j ∙ e ∙ i ∙ ap (λ z. cell_at z (R.state k).cells cell.Clock) (sym (sizes_at R k)))
+      go x y (ticks v e c l q) i j = below (subst (λ n. n < (R.state k).sizes.top) (i ∙ ap (λ z. cell_at z (R.state k).cells cell.Clock) (sym (sizes_at R k))) l)
       go x y (links d e c p) i j = absurd cc
       go x y (stamps p e c q) i j = no_settled_clock p c
       go x y (ends d r e c p q) i j = absurd cc
       go x y (fills c r p o q) i j = absurd o
       go x y (writes o q) i j = absurd o
 
-  module _ (told : RunsStampsTold) (last : RunsLast) (now b : ℕ) (f : Finish) (x : FinishedAt now b f) where
+  module _ (now b : ℕ) (f : Finish) (x : FinishedAt now b f) where
     abbrev w : ℕ
     w = x.worker
 
@@ -308,8 +299,8 @@ module _ (sound : RunsSound) (keep : RunsKeepLaws) (stamp : RunsStamp) (step : R
 
     -- at that turn the call was at one of its places
     at_place : InCall (place_at R f.time w) c
-    at_place = let o = opened_at sound keep stamp step know once R f.time w b known.within x.whose in
-        subst (InCall (place_at R f.time w)) (same_begin sound keep stamp step know once R o.begun began).1 o.place
+    at_place = let o = opened_at R f.time w b known.within x.whose in
+        subst (InCall (place_at R f.time w)) (same_begin R o.begun began).1 o.place
 
     of_survey : (v : Survey) → c ≡ call.Survey v → SurveyTurn f.time w c
     of_survey v e = survey_turn f.time w c at_place (place_surveys (place_at R f.time w) v (subst (InCall (place_at R f.time w)) e at_place)) (proper_at f.time w known.within)
@@ -329,7 +320,7 @@ module _ (sound : RunsSound) (keep : RunsKeepLaws) (stamp : RunsStamp) (step : R
     survey_no_change (Reach i) a (inl e) = ap is_change e
     survey_no_change (Reach i) a (inr e) = ap is_change e
 
-    why_stamped : (m : Option Made) → Why R (suc f.time) b c m f.answer → is_change f.answer ≡ true → IsSome (stamp_at R now b)
+    why_stamped : (m : Option MadeChange) → Why R (suc f.time) b c m f.answer → is_change f.answer ≡ true → IsSome (stamp_at R now b)
     why_stamped m (vertex_made g i r e q a own l s) y = bears_now g (change.Vertex i) r s.number own l s.is
     why_stamped m (vertex_here i r e q h) y = elim q [ inl (p, a) ↦ no_change VertexAlready a refl y | inr (p, a) ↦ no_change VertexPresent a refl y ]
     why_stamped m (vertex_won i r e q a s h l t) y = no_change VertexAlready a refl y
@@ -341,13 +332,13 @@ module _ (sound : RunsSound) (keep : RunsKeepLaws) (stamp : RunsStamp) (step : R
     why_stamped m (edge_missed o d h e p a n k) y = no_change EdgeAbsent a refl y
     why_stamped m (rows_spent d e p a h) y = no_change RowsSpent a refl y
 
-    right_now : Right R (suc f.time) b c (place_made (place_at R f.time w)) f.answer
-    right_now = subst (λ b. Right R (suc f.time) b c (place_made (place_at R f.time w)) f.answer) known.same known.right.right
+    right_now : HasReason R (suc f.time) b c (place_made (place_at R f.time w)) f.answer
+    right_now = subst (λ b. HasReason R (suc f.time) b c (place_made (place_at R f.time w)) f.answer) known.same known.right.right
 
     stamped : is_change f.answer ≡ true → IsSome (stamp_at R now b)
     stamped = go c refl right_now
       where
-        go : (d : Call) → c ≡ d → Right R (suc f.time) b d (place_made (place_at R f.time w)) f.answer → is_change f.answer ≡ true → IsSome (stamp_at R now b)
+        go : (d : Call) → c ≡ d → HasReason R (suc f.time) b d (place_made (place_at R f.time w)) f.answer → is_change f.answer ≡ true → IsSome (stamp_at R now b)
         go (call.Vertex o i) e r = why_stamped (place_made (place_at R f.time w)) (subst (λ d. Why R (suc f.time) b d (place_made (place_at R f.time w)) f.answer) (sym e) r)
         go (call.Edge o p) e r = why_stamped (place_made (place_at R f.time w)) (subst (λ d. Why R (suc f.time) b d (place_made (place_at R f.time w)) f.answer) (sym e) r)
         go (call.Survey v) e r = λ y. elim (survey_answer f.time w c v (of_survey v e) e f.answer known.answer) [
@@ -358,8 +349,8 @@ module _ (sound : RunsSound) (keep : RunsKeepLaws) (stamp : RunsStamp) (step : R
     -- the turn that raised the clock was one of a snapshot or reach, before it was finished
     module _ (p : ℕ) (l : p < now) (ev : RaiseEvent R p b) where
       was_survey : (ev.worker ≡ w) × (c ≡ call.Survey ev.survey)
-      was_survey = let o = opened_at sound keep stamp step know once R p ev.worker b ev.turn.within ev.whose in
-          let (v, d) = same_begin sound keep stamp step know once R o.begun began in
+      was_survey = let o = opened_at R p ev.worker b ev.turn.within ev.whose in
+          let (v, d) = same_begin R o.begun began in
           (v, sym d ∙ sym (subst (λ q. InCall q o.call) ev.turn.place o.place))
 
       not_after : ¬ (f.time < p)
@@ -372,12 +363,12 @@ module _ (sound : RunsSound) (keep : RunsKeepLaws) (stamp : RunsStamp) (step : R
       raised_by = elim (survey_answer f.time w c ev.survey (of_survey ev.survey was_survey.1) was_survey.1 f.answer known.answer) [
         | inl s ↦ (ev.survey, was_survey.1, s)
         | inr (a, s, at, none) ↦ absurd (elim (cases_lt p f.time) [
-          | inl m ↦ raised sound keep stamp step know once R p b ev f.time m w known.within x.whose s at
+          | inl m ↦ raised R p b ev f.time m w known.within x.whose s at
           | inr m ↦ elim (cases_lt f.time p) [
             | inl o ↦ not_after o
             | inr o ↦ (
                 let same : p ≡ f.time = omega arith in
-                let t = taken_at sound keep stamp step know R f.time w (place.Raise s) (record { asked = x.asked; within = known.within; place = at }) (λ q. absurd cc) in
+                let t = taken_at R f.time w (place.Raise s) (record { asked = x.asked; within = known.within; place = at }) (λ q. absurd cc) in
                 let moved : clock_at R (suc f.time) ≡ clock_at R f.time + 1 = subst (λ p. clock_at R (suc p) ≡ clock_at R p + 1) same ev.moved in
                 raise_gets f.time w t (λ q. omega (arith, moved, q)) none)
           ]
@@ -399,6 +390,6 @@ module _ (sound : RunsSound) (keep : RunsKeepLaws) (stamp : RunsStamp) (step : R
       raised = λ t e. (let h = (told R now b).raised t e in raised_by h.time h.before h.held.0);
     }
 
-pub answers_told : RunsSound → RunsKeepLaws → RunsStamp → RunsStep → RunsKnow → RunsSeen → RunsChangeOnce → RunsLast → RunsStampsTold → RunsAnswersTold
-answers_told sound keep stamp step know seen once last told R now b f e =
-    finish_told sound keep stamp step know seen once R told last now b f (finished_at sound keep stamp step know seen once R now b f e)
+pub answers_told : RunsAnswersTold
+answers_told R now b f e =
+    finish_told R now b f (finished_at R now b f e)

@@ -9,41 +9,39 @@ use Rattle.places.specs.declared.place.Call.{Call}
 use Rattle.places.specs.declared.place.Call.TheVariants as call
 use Rattle.places.specs.declared.place.Place.{Place}
 use Rattle.places.specs.declared.place.Place.TheVariants as place
-use Rattle.stepper.specs.declared.request.Request.{Request}
-use Rattle.stepper.specs.declared.request.Request.TheVariants as request
-use Rattle.stepper.specs.Requests.{turn_refused}
-use Rattle.laws.specs.Sound.{RunsSound, RunsKeepLaws}
-use Rattle.laws.specs.Stamps.{RunsStamp}
+use Rattle.machine.specs.declared.request.Request.{Request}
+use Rattle.machine.specs.declared.request.Request.TheVariants as request
+use Rattle.machine.specs.Requests.{turn_refused}
 use Rattle.order.specs.Seen.{is_open}
-use Rattle.runs.specs.Runs.{Run, history_at}
+use Rattle.runs.specs.Runs.{RunInTime, history_at}
 use Rattle.runs.specs.Views.{head_at, place_at}
 use Rattle.runs.specs.Seen.{open_at}
-use Rattle.runs.specs.Steps.{RunsStep}
 use Rattle.runs.specs.Purposes.{InCall}
-use Rattle.runs.specs.Reasons.{BegunBy, RunsKnow}
-use Rattle.runs.specs.Sights.{RunsSeen}
-use Rattle.runs.specs.Once.{RunsChangeOnce}
-use Rattle.runs.proofs.Steps.{StepCase, StepCase.keeps, StepCase.begins, StepCase.turns, sound_at, sizes_at, case_at, within}
-use Rattle.bounds.specs.Bounds.{is_turn_of, is_turn_of_other, turn_of_call, turns_taken, latest_turn, other_links as links_counted, links_of_others, TurnsStayBounded}
+use Rattle.runs.specs.Reasons.{BegunBy}
+use Rattle.runs.proofs.Steps.{StepCase, StepCase.rests as rest, StepCase.begins, StepCase.turns, sound_at, sizes_at, case_at, within}
+use Rattle.bounds.specs.Bounds.{is_turn_of_worker, is_turn_of_other, turn_of_call, turns_taken, latest_turn, other_links as links_counted, links_of_others}
 use Rattle.bounds.proofs.OwnTurn.{pair_head, PairFits, place_fits}
-use Rattle.bounds.proofs.Counts.{open_true, open_then, open_test, taken_first, taken_same, taken_more, latest_next, links_first, links_next, own_turn}
+use Rattle.bounds.proofs.Counts.{open_then, open_test, taken_first, taken_same, taken_more, latest_next, links_first, links_next, own_turn}
 use Rattle.bounds.proofs.Open.{worker_is}
 use Rattle.promise.specs.Sights.{Sight, Sight.begins, Sight.turns}
 use Rattle.promise.specs.Calls.{Begun, begun_in, call_begun}
 use Rattle.promise.specs.Bounds.{one_if, turns_had, until_turn, is_other_link, other_links, rows_linked, survey_limit, turn_limit}
 use Rattle.promise.specs.Bridges.{rows_at_start, shown_at, SurveysBounded, RunsBounded}
-use Rattle.promise.specs.Counts.{TurnsStep, TurnsStep.own, TurnsStep.other, RunsCount}
+use Rattle.promise.specs.Counts.{TurnsStep, TurnsStep.own, TurnsStep.other}
 use Rattle.promise.proofs.Bridges.{sight_at, shown_next, shown_length}
 use Rattle.promise.proofs.Deeds.{Taken, taken_at}
-use Rattle.promise.proofs.DeedRuns.{sight_is, sight_in, refused_rests, opened_at, same_begin, turn_seen}
+use Rattle.promise.proofs.DeedRuns.{sight_is, sight_in, rest_seen, opened_at, same_begin, turn_seen}
 use Rattle.promise.proofs.Pages.{begun_by, is_named}
+use Rattle.promise.proofs.CountRuns.{runs_count as count}
+use Rattle.bounds.proofs.Bounds.{turns_stay_bounded as bounded}
+use Rattle.order.proofs.Seen.{is_open_true}
 
 none_some : {X P : Type 0} (x : X) → None ≡ Some x → P
 none_some x e = absurd cc
 
-is_own : (w : ℕ) (q : Request) → is_turn_of w q ≡ true → q ≡ request.Turn w
+is_own : (w : ℕ) (q : Request) → is_turn_of_worker w q ≡ true → q ≡ request.Turn w
 is_own w (request.Turn v) e = ap request.Turn (eqb-true v w e)
-is_own w (request.Begin b) e = absurd (false≢true e)
+is_own w q e = absurd (false≢true e)
 
 not_in_idle : (p : Place) (c : Call) → InCall p c → ¬ (p ≡ place.Idle)
 not_in_idle p c i e = subst (λ p. InCall p c) e i
@@ -55,21 +53,21 @@ more_or_same false n = omega arith
 one_more : (n : ℕ) (t : Bool) → t ≡ true → one_if t n ≡ n + 1
 one_more n t e = rw e refl
 
-module _ (sound : RunsSound) (keep : RunsKeepLaws) (stamp : RunsStamp) (step : RunsStep) (know : RunsKnow) (seen : RunsSeen) (once : RunsChangeOnce) (count : RunsCount) (R : Run) where
+module _ (R : RunInTime) where
   begun_now : (k : ℕ) (x : Begun) → begun_in (sight_at R k) ≡ Some x → BegunBy R (suc k) x.worker k x.call
-  begun_now k x e = go (case_at sound keep stamp R k)
+  begun_now k x e = go (case_at R k)
     where
       go : StepCase (R.state k) (R.request k) (R.state (suc k)) → BegunBy R (suc k) x.worker k x.call
-      go (keeps y f s) = none_some x (sym (ap begun_in (sight_is R k ∙ ap (λ r. sight_in R k (R.request k) r) f ∙ refused_rests R.sizes (R.state k).cells (R.state (suc k)).cells (R.request k) y)) ∙ e)
+      go (rest f s) = none_some x (sym (ap begun_in (rest_seen R k f)) ∙ e)
       go (begins b c q a f s) = (
-          let g : BegunBy R (suc k) b.worker k c = begun_by sound keep stamp step know seen once R k b c q a f s in
-          let n = is_named sound keep stamp step know seen once R k b c q a f s in
+          let g : BegunBy R (suc k) b.worker k c = begun_by R k b c q a f s in
+          let n = is_named R k b c q a f s in
           let h : Some (record { worker = b.worker; call = c }) ≡ Some x = ap (λ c. Some (record { worker = b.worker; call = c })) n ∙ sym (ap begun_in (sight_is R k ∙ ap₂ (λ q r. sight_in R k q r) q f)) ∙ e in
           let same : record { worker = b.worker; call = c } ≡ x = cc in
           subst (λ (x : Begun). BegunBy R (suc k) x.worker k x.call) same g)
       go (turns w q n f s) = (
-          let t : Taken sound keep stamp step know R k w = record { asked = q; within = within sound keep stamp R k w q n s; accepted = n; reply = f; next = s } in
-          let (d, y) = turn_seen sound keep stamp step know once R k w t in none_some x (sym (ap begun_in y) ∙ e))
+          let t : Taken R k w = record { asked = q; within = within R k w q n s; accepted = n; reply = f; next = s } in
+          let (d, y) = turn_seen R k w t in none_some x (sym (ap begun_in y) ∙ e))
 
   -- a call that was seen to begin did
   pub begun_told : (now b : ℕ) (x : Begun) → call_begun (shown_at R now).sights b ≡ Some x → BegunBy R now x.worker b x.call
@@ -100,20 +98,20 @@ module _ (sound : RunsSound) (keep : RunsKeepLaws) (stamp : RunsStamp) (step : R
         not_one : ((v : ℕ) → R.request k ≡ request.Turn v → v < R.sizes.workers → turn_refused (R.state k) v ≡ None → ¬ (open_at R k v ≡ Some b)) → turn_of_call R w b k ≡ false
         not_one n = elim (cases_Bool (turn_of_call R w b k)) [
           | inl y ↦ (
-              let l = worker_is sound keep stamp know R now w b c g in
-              let q = is_own w (R.request k) (and_parts (is_turn_of w (R.request k)) (is_open (open_at R k w) b) y).0 in
+              let l = worker_is R now w b c g in
+              let q = is_own w (R.request k) (and_parts (is_turn_of_worker w (R.request k)) (is_open (open_at R k w) b) y).0 in
               let o = open_then R w b k y in
-              let here = opened_at sound keep stamp step know once R k w b l o in
-              let t = taken_at sound keep stamp step know R k w (place_at R k w) (record { asked = q; within = l; place = refl }) (not_in_idle (place_at R k w) here.call here.place) in
+              let here = opened_at R k w b l o in
+              let t = taken_at R k w (place_at R k w) (record { asked = q; within = l; place = refl }) (not_in_idle (place_at R k w) here.call here.place) in
               absurd (n w q l t.accepted o))
           | inr y ↦ y
         ]
 
         go : TurnsStep R k b → OneTurn k
         go (own v q l a o h u) = (
-            let same : v ≡ w = (same_begin sound keep stamp step know once R (opened_at sound keep stamp step know once R k v b l o).begun g).0 in
+            let same : v ≡ w = (same_begin R (opened_at R k v b l o).begun g).0 in
             let here : open_at R k w ≡ Some b = ap (open_at R k) (sym same) ∙ o in
-            let e : turn_of_call R w b k ≡ true = ap (λ q. is_turn_of w q && is_open (open_at R k w) b) (q ∙ ap request.Turn same) ∙ rw (own_turn w, open_test R w b k here) refl in
+            let e : turn_of_call R w b k ≡ true = ap (λ q. is_turn_of_worker w q && is_open (open_at R k w) b) (q ∙ ap request.Turn same) ∙ rw (own_turn w, open_test R w b k here) refl in
             counted e h u)
         go (other n h u) = passed (not_one n) h u
 
@@ -150,12 +148,12 @@ module _ (sound : RunsSound) (keep : RunsKeepLaws) (stamp : RunsStamp) (step : R
     linked_once k e =
         let (open_other, moved) = and_parts (is_open (open_at R k w) b && is_turn_of_other w (R.request k)) (not (head_at R (suc k) (pair_head p) == head_at R k (pair_head p))) e in
         let (is, another) = and_parts (is_open (open_at R k w) b) (is_turn_of_other w (R.request k)) open_other in
-        let l = worker_is sound keep stamp know R now w b (call.Edge o p) g in
-        let here = opened_at sound keep stamp step know once R k w b l (open_true (open_at R k w) b is) in
-        let same = (same_begin sound keep stamp step know once R here.begun g).1 in
-        let there : w < (R.state k).sizes.workers = subst (λ (z : Sizes). w < z.workers) (sym (sizes_at sound keep stamp R k)) l in
-        let fits : PairFits (R.state k) (call.Edge o p) = place_fits (R.state k) (place_at R k w) (call.Edge o p) (subst (InCall (place_at R k w)) same here.place) ((sound_at sound keep stamp R k).places w there) in
-        let named = subst (λ (z : Sizes). (p.from < z.keys) × (p.to < z.keys)) (sizes_at sound keep stamp R k) fits in
+        let l = worker_is R now w b (call.Edge o p) g in
+        let here = opened_at R k w b l (is_open_true (open_at R k w) b is) in
+        let same = (same_begin R here.begun g).1 in
+        let there : w < (R.state k).sizes.workers = subst (λ (z : Sizes). w < z.workers) (sym (sizes_at R k)) l in
+        let fits : PairFits (R.state k) (call.Edge o p) = place_fits (R.state k) (place_at R k w) (call.Edge o p) (subst (InCall (place_at R k w)) same here.place) ((sound_at R k).places w there) in
+        let named = subst (λ (z : Sizes). (p.from < z.keys) × (p.to < z.keys)) (sizes_at R k) fits in
         let (v, q, s) = ((count R k).links w p b named).moved (λ f. false≢true (sym (rw (eq-eqb _ _ f) refl) ∙ moved)) in
         let apart : not (v == w) ≡ true = sym (ap (is_turn_of_other w) q) ∙ another in
         s ∙ one_more (told k) (nat_lt b k && not (v == w)) (rw (lt-ltb b k here.begun.before, apart) refl)
@@ -167,7 +165,7 @@ module _ (sound : RunsSound) (keep : RunsKeepLaws) (stamp : RunsStamp) (step : R
       | inr n ↦ omega (arith, links_told k, told_more k, links_next R w b k (pair_head p) false n)
     ]
 
-  module _ (bounded : TurnsStayBounded) (surveys : SurveysBounded) (now w b : ℕ) where
+  module _ (surveys : SurveysBounded) (now w b : ℕ) where
     abbrev ss : List Sight
     ss = (shown_at R now).sights
 
@@ -189,6 +187,6 @@ module _ (sound : RunsSound) (keep : RunsKeepLaws) (stamp : RunsStamp) (step : R
           subst (λ n. turns_had ss b ≤ survey_limit R.sizes (rows_at_start R + n)) (sym same) (omega (arith, had_is now w b (call.Survey v) g now, surveys R now w b v g)))
     ]
 
-pub runs_bounded : RunsSound → RunsKeepLaws → RunsStamp → RunsStep → RunsKnow → RunsSeen → RunsChangeOnce → RunsCount → TurnsStayBounded → SurveysBounded → RunsBounded
-runs_bounded sound keep stamp step know seen once count bounded surveys R now b x e =
-    keeps_bound sound keep stamp step know seen once count R bounded surveys now x.worker b x.call (begun_told sound keep stamp step know seen once count R now b x e)
+pub runs_bounded : SurveysBounded → RunsBounded
+runs_bounded surveys R now b x e =
+    keeps_bound R surveys now x.worker b x.call (begun_told R now b x e)

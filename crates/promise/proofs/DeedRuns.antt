@@ -3,7 +3,6 @@ use Rattle.std.proofs.Common.{◌≡◌, ℕ, zero, suc, ◌<◌, Bool, true, fa
 use Rattle.std.specs.Option.{option_or}
 use Rattle.std.proofs.lemmas.Bool.{cases_eq, eq-eqb, eqb-true, false≢true}
 use Rattle.codes.specs.declared.answer.Answer.{Answer}
-use Rattle.codes.specs.declared.refusal.Refusal.{Refusal}
 use Rattle.layout.specs.declared.sizes.Sizes.{Sizes}
 use Rattle.layout.specs.declared.names.Cell.TheVariants as cell
 use Rattle.layout.specs.declared.names.Kind.{Kind}
@@ -11,10 +10,8 @@ use Rattle.layout.specs.declared.names.Head.{Head}
 use Rattle.layout.specs.declared.names.Field.{Field}
 use Rattle.layout.specs.declared.names.Field.TheVariants.{Ins, Del}
 use Rattle.places.specs.declared.call.Begin.{Begin}
-use Rattle.places.specs.declared.place.Op.{Op}
 use Rattle.places.specs.declared.place.Op.TheVariants.{Add, Remove}
 use Rattle.places.specs.declared.place.Change.{Change}
-use Rattle.places.specs.declared.place.Change.TheVariants as change
 use Rattle.places.specs.declared.place.Survey.{Survey}
 use Rattle.places.specs.declared.place.Call.{Call}
 use Rattle.places.specs.declared.place.Call.TheVariants as call
@@ -22,42 +19,44 @@ use Rattle.places.specs.Calls.{call_named}
 use Rattle.places.specs.Touches.{change_head}
 use Rattle.places.specs.declared.place.Place.{Place}
 use Rattle.places.specs.declared.place.Place.TheVariants as place
-use Rattle.stepper.specs.declared.request.Request.{Request}
-use Rattle.stepper.specs.declared.request.Request.TheVariants as request
-use Rattle.stepper.specs.declared.request.Reply.{Reply}
-use Rattle.stepper.specs.declared.request.Reply.TheVariants as reply
-use Rattle.stepper.specs.declared.worker.Worker.{Worker}
-use Rattle.stepper.specs.States.{State}
-use Rattle.stepper.specs.Effects.{got_of}
-use Rattle.stepper.specs.Turns.{worker_at, hand_at, touch_at, answer_at, followed_at}
-use Rattle.stepper.specs.Requests.{begun_as, answered_or, reply_of, stepped}
-use Rattle.stepper.proofs.Stages.{StagedOr, next_staged, followed_staged}
-use Rattle.laws.specs.Changes.{number_in}
-use Rattle.laws.specs.Sound.{RunsSound, RunsKeepLaws}
-use Rattle.laws.specs.Stamps.{RunsStamp}
-use Rattle.runs.specs.Runs.{Run, history_at}
+use Rattle.machine.specs.declared.request.Request.{Request}
+use Rattle.machine.specs.declared.request.Request.TheVariants as request
+use Rattle.machine.specs.declared.request.Reply.{Reply}
+use Rattle.machine.specs.declared.request.Reply.TheVariants as reply
+use Rattle.machine.specs.declared.worker.Worker.{Worker}
+use Rattle.machine.specs.States.{State}
+use Rattle.machine.specs.Effects.{got_of}
+use Rattle.machine.specs.Turns.{worker_at, hand_at, touch_at, answer_at, followed_at}
+use Rattle.machine.specs.Requests.{call_to_begin, answered_or, reply_of, stepped}
+use Rattle.machine.proofs.Stages.{StagedOr, next_staged, followed_staged}
+use Rattle.runs.specs.Runs.{RunInTime, history_at}
 use Rattle.runs.specs.Views.{clock_at, place_at, head_at}
+use Rattle.laws.proofs.Taken.{begin_taken, begun_others}
+use Rattle.laws.proofs.Rests.{numbers_same}
 use Rattle.runs.specs.Seen.{open_at}
-use Rattle.runs.specs.Steps.{RunsStep}
-use Rattle.runs.specs.Times.{Past}
-use Rattle.runs.specs.Purposes.{InCall, change_call, place_made}
+use Rattle.runs.specs.Times.{Before}
+use Rattle.runs.specs.Purposes.{InCall, place_made}
 use Rattle.runs.specs.Known.{ChangeEvent}
-use Rattle.runs.specs.Reasons.{BegunBy, WorkerKnows, WorkerKnows.free, WorkerKnows.busy, RunsKnow}
-use Rattle.runs.specs.Once.{RunsChangeOnce}
+use Rattle.runs.specs.Reasons.{BegunBy, WorkerKnows, WorkerKnows.free, WorkerKnows.busy}
 use Rattle.runs.proofs.Turns.{worker_after, others_after}
-use Rattle.runs.proofs.Steps.{StepCase, StepCase.keeps, StepCase.begins, StepCase.turns, begin_taken, begun_others, sound_at, case_at, here, within}
-use Rattle.runs.proofs.Opens.{refused_keeps, begin_opens, begin_keeps, runs_keeps, answer_keeps}
+use Rattle.runs.proofs.Steps.{acts, StepCase, StepCase.rests as rest, StepCase.begins, StepCase.turns, sound_at, case_at, here, within, sizes_at}
+use Rattle.runs.proofs.Opens.{rests_keep, begin_opens, begin_keeps, runs_keeps, answer_keeps}
 use Rattle.promise.specs.Sights.{Deed, Deed.links, Deed.ends, Deed.raises, End, Sight, Sight.begins, Sight.turns, Sight.rests, sight_of, page_in}
-use Rattle.promise.specs.Calls.{open_by, is_call, is_turn_of, deed_of, deed_by}
+use Rattle.promise.specs.Calls.{open_by, is_call, is_sight_of_call, deed_of, deed_by}
 use Rattle.promise.specs.Bridges.{shown_at}
 use Rattle.promise.specs.Deeds.{RaiseEvent, DeedEvent, RunsDeeds}
-use Rattle.promise.proofs.Bridges.{shown_state, sizes_stay, shown_next, shown_opens, sight_at}
+use Rattle.promise.proofs.Bridges.{shown_state, shown_next, shown_opens, sight_at}
 use Rattle.promise.proofs.Firsts.{or_found, or_first, or_second, some_or_none}
 use Rattle.promise.proofs.Deeds.{deed_at, Taken, deed_told, event_seen, deed_turn}
+use Rattle.runs.proofs.Knows.{runs_know as know}
+use Rattle.runs.proofs.Once.{runs_change_once as once, one_worker}
+use Rattle.walks.proofs.RunSurveys.{change_none}
 
-pub refused_rests : (z : Sizes) (a b : List ℕ) (q : Request) (e : Refusal) → sight_of z a b q (reply.Refused e) ≡ rests
-refused_rests z a b (request.Begin x) e = refl
-refused_rests z a b (request.Turn w) e = refl
+unacted_rests : (z : Sizes) (a b : List ℕ) (q : Request) (y : Reply) → acts q y ≡ false → sight_of z a b q y ≡ rests
+unacted_rests z a b (request.Begin x) reply.Done e = absurd cc
+unacted_rests z a b (request.Turn w) reply.Running e = absurd cc
+unacted_rests z a b (request.Turn w) (reply.Answered x) e = absurd cc
+unacted_rests z a b q y e = refl
 
 is_call_same : (o : Option ℕ) (b : ℕ) → is_call o b ≡ true → o ≡ Some b
 is_call_same None b e = absurd (false≢true e)
@@ -67,7 +66,7 @@ when_true : {X : Type 0} (t : Bool) (o : Option X) (x : X) → cond t o None ≡
 when_true true o x e = (refl, e)
 when_true false o x e = absurd (let f : None ≡ Some x = e in cc)
 
-module _ (R : Run) where
+module _ (R : RunInTime) where
   pub opens_at : (k w : ℕ) → open_by (shown_at R k).sights w ≡ open_at R k w
   opens_at k w = shown_opens R k w
 
@@ -80,14 +79,18 @@ module _ (R : Run) where
       let q = R.request k in
       let r = reply_of (R.state k) (R.request k) in
       ap (λ (s : State). sight_of s.sizes s.cells (stepped s q).cells q r) (shown_state R k)
-      ∙ ap₂ (λ (z : Sizes) (s : State). sight_of z (R.state k).cells s.cells q r) (sizes_stay R k) (sym (R.next k))
+      ∙ ap₂ (λ (z : Sizes) (s : State). sight_of z (R.state k).cells s.cells q r) (sizes_at R k) (sym (R.next k))
 
-module _ (sound : RunsSound) (keep : RunsKeepLaws) (stamp : RunsStamp) (step : RunsStep) (know : RunsKnow) (once : RunsChangeOnce) (R : Run) where
+  -- what neither begins a call nor gives a turn is seen to rest
+  pub rest_seen : (k : ℕ) → acts (R.request k) (reply_of (R.state k) (R.request k)) ≡ false → sight_at R k ≡ rests
+  rest_seen k f = sight_is k ∙ unacted_rests R.sizes (R.state k).cells (R.state (suc k)).cells (R.request k) (reply_of (R.state k) (R.request k)) f
+
+module _ (R : RunInTime) where
   abbrev pub TakenAt : ℕ → ℕ → Type 0
-  TakenAt k w = Taken sound keep stamp step know R k w
+  TakenAt k w = Taken R k w
 
   abbrev pub deed_in_turn : ℕ → Option Deed
-  deed_in_turn k = deed_at sound keep stamp step know R k
+  deed_in_turn k = deed_at R k
 
   -- a request is seen as a turn of a worker, or as a begin, or it rests
   pub data SightCase (k : ℕ) : Type 0 where
@@ -106,13 +109,13 @@ module _ (sound : RunsSound) (keep : RunsKeepLaws) (stamp : RunsStamp) (step : R
       go (Some a) e = (Some (record { answer = a; page = page_in R.sizes (R.state (suc k)).cells w }), shows (Some a) e)
 
   pub sight_case : (k : ℕ) → SightCase k
-  sight_case k = go (case_at sound keep stamp R k)
+  sight_case k = go (case_at R k)
     where
       go : StepCase (R.state k) (R.request k) (R.state (suc k)) → SightCase k
-      go (keeps x f e) = at_rest (ap (λ (s : State). s.cells) e) (sight_is R k ∙ ap (λ r. sight_in R k (R.request k) r) f ∙ refused_rests R.sizes (R.state k).cells (R.state (suc k)).cells (R.request k) x)
+      go (rest f e) = at_rest e.rows.cells (rest_seen R k f)
       go (begins b c q a f e) = at_begin b.worker (call_named b) (ap (λ (s : State). s.cells) e) (sight_is R k ∙ ap₂ (λ q r. sight_in R k q r) q f)
       go (turns w q n f e) = (
-          let t : TakenAt k w = record { asked = q; within = within sound keep stamp R k w q n e; accepted = n; reply = f; next = e } in
+          let t : TakenAt k w = record { asked = q; within = within R k w q n e; accepted = n; reply = f; next = e } in
           let (x, y) = turn_seen k w t in a_turn w x t y)
 
   -- the call that a worker has open was begun by it, and its place is one of that call
@@ -133,19 +136,16 @@ module _ (sound : RunsSound) (keep : RunsKeepLaws) (stamp : RunsStamp) (step : R
   same_begin {k} {j} {w} {v} {b} {c} {d} x y =
       let e : request.Begin x.begin ≡ request.Begin y.begin = sym x.asked ∙ y.asked in
       let same : x.begin ≡ y.begin = cc in
-      let f : Ok c ≡ Ok d = sym x.call ∙ ap (begun_as (R.state b)) same ∙ y.call in
+      let f : Ok c ≡ Ok d = sym x.call ∙ ap (call_to_begin (R.state b)) same ∙ y.call in
       (sym x.worker ∙ ap (λ (b : Begin). b.worker) same ∙ y.worker, cc)
-
-  one_worker : (k w v b : ℕ) → w < R.sizes.workers → v < R.sizes.workers → open_at R k w ≡ Some b → open_at R k v ≡ Some b → w ≡ v
-  one_worker k w v b l m o p = (same_begin (opened_at k w b l o).begun (opened_at k v b m p).begun).0
 
   -- no turn leads to a raise
   turn_no_raise : (k w : ℕ) → TakenAt k w → (v : Survey) → ¬ (place_at R (suc k) w ≡ place.Raise v)
   turn_no_raise k w t v e =
       let s = R.state k in
-      let l = here sound keep stamp R k w t.asked t.accepted t.next in
+      let l = here R k w t.asked t.accepted t.next in
       let after : (followed_at s w).worker.place ≡ place.Raise v =
-      ap (λ (u : Worker). u.place) (sym (worker_after s w (sound_at sound keep stamp R k) l)) ∙ ap (λ (s : State). (worker_at s w).place) (sym t.next) ∙ e in
+      ap (λ (u : Worker). u.place) (sym (worker_after s w (sound_at R k) l)) ∙ ap (λ (s : State). (worker_at s w).place) (sym t.next) ∙ e in
       let g = got_of s.sizes s.cells (touch_at s w) in
       let staged = followed_staged (worker_at s w).place g s.sizes.keys (worker_at s w) (hand_at s w) _ (next_staged (worker_at s w).place (hand_at s w) g) in
       go g (followed_at s w).answer (followed_at s w).worker.place after staged
@@ -157,7 +157,7 @@ module _ (sound : RunsSound) (keep : RunsKeepLaws) (stamp : RunsStamp) (step : R
   -- after a raise the call is at no raise, if it was at none before this step
   raised_next : (p b : ℕ) → RaiseEvent R p b → (k : ℕ) → p < suc k → (w : ℕ) → w < R.sizes.workers → open_at R (suc k) w ≡ Some b → (v : Survey) → place_at R (suc k) w ≡ place.Raise v →
       (¬ (p ≡ k) → open_at R k w ≡ Some b → place_at R k w ≡ place.Raise v → ⊥) → ⊥
-  raised_next p b ev k l w m o v e earlier = go (case_at sound keep stamp R k)
+  raised_next p b ev k l w m o v e earlier = go (case_at R k)
     where
       -- the step leaves the worker alone
       alone : open_at R (suc k) w ≡ open_at R k w → place_at R (suc k) w ≡ place_at R k w → ¬ (p ≡ k) → ⊥
@@ -170,18 +170,18 @@ module _ (sound : RunsSound) (keep : RunsKeepLaws) (stamp : RunsStamp) (step : R
       asked_at q = subst (λ j. R.request j ≡ request.Turn ev.worker) q ev.turn.asked
 
       go : StepCase (R.state k) (R.request k) (R.state (suc k)) → ⊥
-      go (keeps x f s) = alone (refused_keeps R k (R.request k) x w refl f) (ap (λ s. (worker_at s w).place) s) (λ q. (
-          let same : clock_at R (suc p) ≡ clock_at R p = subst (λ j. clock_at R (suc j) ≡ clock_at R j) (sym q) (ap (λ s. number_in s cell.Clock) s) in
+      go (rest f s) = alone (rests_keep R k w f) (s.workers w).place (λ q. (
+          let same : clock_at R (suc p) ≡ clock_at R p = subst (λ j. clock_at R (suc j) ≡ clock_at R j) (sym q) (numbers_same (R.state k) (R.state (suc k)) s.rows cell.Clock) in
           omega (arith, ev.moved, same)))
       go (begins x c q a f s) = elim (cases_eq w x.worker) [
         | inl i ↦ (let h : open_at R (suc k) w ≡ Some k = ap (open_at R (suc k)) i ∙ begin_opens R k x q (ap (reply_of (R.state k)) (sym q) ∙ f) in
             let g : Some k ≡ Some b = sym h ∙ o in let j : k ≡ b = cc in omega (arith, began_before))
         | inr i ↦ alone (begin_keeps R k x q (ap (reply_of (R.state k)) (sym q) ∙ f) w i)
-            (ap (λ s. (worker_at s w).place) s ∙ ap (λ u. u.place) (begun_others (R.state k) (sound_at sound keep stamp R k) x.worker (begin_taken (R.state k) x c a).within c w i))
+            (ap (λ s. (worker_at s w).place) s ∙ ap (λ u. u.place) (begun_others (R.state k) (sound_at R k) x.worker (begin_taken (R.state k) x c a).within c w i))
             (λ j. absurd (let h : request.Begin x ≡ request.Turn ev.worker = sym q ∙ asked_at j in cc))
       ]
       go (turns u q n f s) = (
-          let t : TakenAt k u = record { asked = q; within = within sound keep stamp R k u q n s; accepted = n; reply = f; next = s } in
+          let t : TakenAt k u = record { asked = q; within = within R k u q n s; accepted = n; reply = f; next = s } in
           elim (cases_eq w u) [
             | inl i ↦ turn_no_raise k u t v (subst (λ w. place_at R (suc k) w ≡ place.Raise v) i e)
             | inr i ↦ other u t i (answer_at (R.state k) u) refl
@@ -190,9 +190,9 @@ module _ (sound : RunsSound) (keep : RunsKeepLaws) (stamp : RunsStamp) (step : R
           other : (u : ℕ) → TakenAt k u → ¬ (w ≡ u) → (a : Option Answer) → answer_at (R.state k) u ≡ a → ⊥
           other u t i a g =
               let opens : open_at R (suc k) w ≡ open_at R k w = keeps_open u t i a g in
-              alone opens (ap (λ s. (worker_at s w).place) t.next ∙ ap (λ u. u.place) (others_after (R.state k) u (sound_at sound keep stamp R k) (here sound keep stamp R k u t.asked t.accepted t.next) w i))
+              alone opens (ap (λ s. (worker_at s w).place) t.next ∙ ap (λ u. u.place) (others_after (R.state k) u (sound_at R k) (here R k u t.asked t.accepted t.next) w i))
               (λ j. (let h : request.Turn u ≡ request.Turn ev.worker = sym t.asked ∙ asked_at j in let same : u ≡ ev.worker = cc in
-              i (one_worker k w u b m t.within (sym opens ∙ o) (subst₂ (λ j v. open_at R j v ≡ Some b) j (sym same) ev.whose))))
+              i (one_worker R k w u b m t.within (sym opens ∙ o) (subst₂ (λ j v. open_at R j v ≡ Some b) j (sym same) ev.whose))))
             where
               keeps_open : (u : ℕ) → TakenAt k u → ¬ (w ≡ u) → (a : Option Answer) → answer_at (R.state k) u ≡ a → open_at R (suc k) w ≡ open_at R k w
               keeps_open u t i None g = runs_keeps R k u t.asked w (ap (reply_of (R.state k)) (sym t.asked) ∙ t.reply ∙ ap (λ a. answered_or (Ok a)) g)
@@ -201,11 +201,6 @@ module _ (sound : RunsSound) (keep : RunsKeepLaws) (stamp : RunsStamp) (step : R
   pub raised : (p b : ℕ) → RaiseEvent R p b → (k : ℕ) → p < k → (w : ℕ) → w < R.sizes.workers → open_at R k w ≡ Some b → (v : Survey) → ¬ (place_at R k w ≡ place.Raise v)
   raised p b ev zero l w m o v e = absurd (omega arith)
   raised p b ev (suc k) l w m o v e = raised_next p b ev k l w m o v e (λ n f g. raised p b ev k (omega arith) w m f v g)
-
-  -- the call of a change adds or removes, and the call of a raise does not
-  change_no_survey : (a : Op) (d : Change) (v : Survey) → change_call a d ≡ call.Survey v → ⊥
-  change_no_survey a (change.Vertex i) v e = absurd cc
-  change_no_survey a (change.Edge b) v e = absurd cc
 
   -- where a deed is done
   pub data DeedPlace (k w : ℕ) : Deed → Type 0 where
@@ -250,8 +245,8 @@ module _ (sound : RunsSound) (keep : RunsKeepLaws) (stamp : RunsStamp) (step : R
       survey = subst (λ p. InCall p was.call) ev.turn.place was.place ∙ (same_begin was.begun now.begun).1
 
       go : (y : Deed) → DeedPlace q w y → ⊥
-      go y (to_link d h r g e) = change_no_survey Add d ev.survey (subst (λ p. InCall p now.call) e now.place ∙ sym survey)
-      go y (to_end d r c e) = change_no_survey Remove d ev.survey (subst (λ p. InCall p now.call) e now.place ∙ sym survey)
+      go y (to_link d h r g e) = change_none d Add ev.survey (subst (λ p. InCall p now.call) e now.place ∙ sym survey)
+      go y (to_end d r c e) = change_none d Remove ev.survey (subst (λ p. InCall p now.call) e now.place ∙ sym survey)
       go y (to_raise v t e) = raised p b ev q l w m o v e
 
   -- a call does one deed
@@ -262,27 +257,27 @@ module _ (sound : RunsSound) (keep : RunsKeepLaws) (stamp : RunsStamp) (step : R
 
   -- the deed of a call at request k, if it is a turn of the call
   abbrev here_by : ℕ → ℕ → Option Deed
-  here_by k b = cond (is_turn_of (sight_at R k) (shown_at R k).sights b) (deed_of (sight_at R k)) None
+  here_by k b = cond (is_sight_of_call (sight_at R k) (shown_at R k).sights b) (deed_of (sight_at R k)) None
 
   told_here : (k b : ℕ) (x : Deed) → here_by k b ≡ Some x → DeedEvent R k b x
   told_here k b x e = go (sight_case k)
     where
       go : SightCase k → DeedEvent R k b x
-      go (at_begin w c q s) = absurd (let f : None ≡ Some x = subst (λ s. cond (is_turn_of s (shown_at R k).sights b) (deed_of s) None ≡ Some x) s e in cc)
-      go (at_rest q s) = absurd (let f : None ≡ Some x = subst (λ s. cond (is_turn_of s (shown_at R k).sights b) (deed_of s) None ≡ Some x) s e in cc)
+      go (at_begin w c q s) = absurd (let f : None ≡ Some x = subst (λ s. cond (is_sight_of_call s (shown_at R k).sights b) (deed_of s) None ≡ Some x) s e in cc)
+      go (at_rest q s) = absurd (let f : None ≡ Some x = subst (λ s. cond (is_sight_of_call s (shown_at R k).sights b) (deed_of s) None ≡ Some x) s e in cc)
       go (a_turn w d t s) = (
-          let f : cond (is_call (open_by (shown_at R k).sights w) b) (deed_in_turn k) None ≡ Some x = subst (λ s. cond (is_turn_of s (shown_at R k).sights b) (deed_of s) None ≡ Some x) s e in
+          let f : cond (is_call (open_by (shown_at R k).sights w) b) (deed_in_turn k) None ≡ Some x = subst (λ s. cond (is_sight_of_call s (shown_at R k).sights b) (deed_of s) None ≡ Some x) s e in
           let (y, z) = when_true (is_call (open_by (shown_at R k).sights w) b) (deed_in_turn k) x f in
-          deed_told sound keep stamp step know R k w b t (sym (opens_at R k w) ∙ is_call_same (open_by (shown_at R k).sights w) b y) x z)
+          deed_told R k w b t (sym (opens_at R k w) ∙ is_call_same (open_by (shown_at R k).sights w) b y) x z)
 
   seen_here : (k b : ℕ) (x : Deed) → DeedEvent R k b x → here_by k b ≡ Some x
   seen_here k b x ev =
-      let z = deed_turn sound keep stamp step know R k b x ev in
+      let z = deed_turn R k b x ev in
       let (d, s) = turn_seen k z.worker z.taken in
       let opens : open_by (shown_at R k).sights z.worker ≡ Some b = opens_at R k z.worker ∙ z.whose in
       let same : is_call (open_by (shown_at R k).sights z.worker) b ≡ true = ap (λ o. is_call o b) opens ∙ eq-eqb b b refl in
-      ap (λ s. cond (is_turn_of s (shown_at R k).sights b) (deed_of s) None) s
-      ∙ ap (λ t. cond t (deed_in_turn k) None) same ∙ event_seen sound keep stamp step know R k b x ev
+      ap (λ s. cond (is_sight_of_call s (shown_at R k).sights b) (deed_of s) None) s
+      ∙ ap (λ t. cond t (deed_in_turn k) None) same ∙ event_seen R k b x ev
 
   deed_next : (k b : ℕ) → deed_by (shown_at R (suc k)).sights b ≡ option_or (here_by k b) (deed_by (shown_at R k).sights b)
   deed_next k b = ap (λ ss. deed_by ss b) (shown_next R k)
@@ -291,7 +286,7 @@ module _ (sound : RunsSound) (keep : RunsKeepLaws) (stamp : RunsStamp) (step : R
   unfolding history_at
   deed_start b = refl
 
-  pub deeds_done : (now b : ℕ) (x : Deed) → deed_by (shown_at R now).sights b ≡ Some x → Past now (λ p. DeedEvent R p b x)
+  pub deeds_done : (now b : ℕ) (x : Deed) → deed_by (shown_at R now).sights b ≡ Some x → Before now (λ p. DeedEvent R p b x)
   deeds_done zero b x e = absurd (let f : None ≡ Some x = sym (deed_start b) ∙ e in cc)
   deeds_done (suc k) b x e = elim (or_found (here_by k b) (deed_by (shown_at R k).sights b) x (sym (deed_next k b) ∙ e)) [
     | inl f ↦ record { time = k; before = omega arith; held = told_here k b x f }
@@ -307,5 +302,5 @@ module _ (sound : RunsSound) (keep : RunsKeepLaws) (stamp : RunsStamp) (step : R
         (deeds_seen k b x p (omega arith) ev)
   ]
 
-pub runs_deeds : RunsSound → RunsKeepLaws → RunsStamp → RunsStep → RunsKnow → RunsChangeOnce → RunsDeeds
-runs_deeds sound keep stamp step know once R now b = record { done = deeds_done sound keep stamp step know once R now b; seen = deeds_seen sound keep stamp step know once R now b }
+pub runs_deeds : RunsDeeds
+runs_deeds R now b = record { done = deeds_done R now b; seen = deeds_seen R now b }

@@ -11,49 +11,39 @@ use Rattle.layout.specs.declared.names.Cell.TheVariants as cell
 use Rattle.layout.specs.Layout.{Named, IsRow}
 use Rattle.places.specs.declared.place.Change.{Change}
 use Rattle.places.specs.declared.place.Survey.{Survey}
-use Rattle.places.specs.declared.place.Purpose.{Purpose}
-use Rattle.places.specs.declared.place.Purpose.TheVariants as purpose
 use Rattle.places.specs.declared.place.Place.{Place}
 use Rattle.places.specs.declared.place.Place.TheVariants as place
 use Rattle.places.specs.declared.mark.Mark.TheVariants.{NotEnded, Pending, Stamp}
 use Rattle.places.specs.Marks.{pending, mark_of}
-use Rattle.places.specs.Touches.{change_head, change_kind, settled_field}
-use Rattle.stepper.specs.declared.request.Request.TheVariants as request
-use Rattle.stepper.specs.States.{State}
-use Rattle.stepper.specs.Turns.{worker_at, cell_at, answer_at, turned}
-use Rattle.stepper.specs.Requests.{is_idle, turn_refused, answered_or, unless_refused, state_or, reply_of, stepped}
+use Rattle.places.specs.Touches.{change_head, change_kind}
+use Rattle.machine.specs.declared.request.Request.TheVariants as request
+use Rattle.machine.specs.States.{State}
+use Rattle.machine.specs.Turns.{worker_at, cell_at, answer_at, turned}
+use Rattle.machine.specs.Requests.{is_idle, turn_refused, answered_or, unless_refused, state_or, reply_of, stepped}
 use Rattle.laws.specs.Fits.{Linked, FitPlace, RowOrNone}
 use Rattle.laws.specs.Changes.{number_in, Changes, Changes.keeps, Changes.ticks, Changes.links, Changes.stamps, Changes.ends, Changes.fills, Changes.writes}
-use Rattle.laws.specs.Sound.{RunsSound, RunsKeepLaws}
-use Rattle.laws.specs.Stamps.{RunsStamp}
-use Rattle.runs.specs.Runs.{Run, history_at}
+use Rattle.runs.specs.Runs.{RunInTime, history_at}
 use Rattle.runs.specs.Views.{number_at, clock_at, head_at, place_at}
 use Rattle.runs.specs.Seen.{open_at}
-use Rattle.runs.specs.Steps.{TurnAt, HeadSteps, HeadSteps.stays, HeadSteps.moves, RunsStep}
+use Rattle.runs.specs.Steps.{TurnAt, HeadSteps, HeadSteps.stays, HeadSteps.moves}
 use Rattle.runs.specs.Known.{Known, LinkEvent, EndEvent}
-use Rattle.runs.specs.Reasons.{WorkerKnows, WorkerKnows.free, WorkerKnows.busy, RunsKnow}
+use Rattle.runs.specs.Reasons.{WorkerKnows, WorkerKnows.free, WorkerKnows.busy}
 use Rattle.runs.proofs.Histories.{traced}
-use Rattle.runs.proofs.Links.{linked_is_row}
-use Rattle.runs.proofs.Turns.{change_named}
 use Rattle.runs.proofs.TurnSteps.{no_settled_head}
 use Rattle.runs.proofs.Steps.{sound_at, sizes_at}
 use Rattle.promise.specs.Sights.{Deed, Deed.links, Deed.ends, Deed.raises, head_moved, del_begun, some_head_moved, some_del_begun, deed_in}
 use Rattle.promise.specs.Deeds.{RaiseEvent, DeedEvent}
 use Rattle.promise.proofs.Firsts.{moved_is, is_moved, begun_is, is_begun, clock_is, is_clock, head_found, heads_none, del_found, dels_none, DeedFrom, DeedFrom.from_head, DeedFrom.from_del, DeedFrom.from_clock, deed_from, deed_of_head, deed_of_vertex, deed_of_edge, deed_of_clock, some_or_none}
+use Rattle.laws.proofs.Runs.{runs_keep_laws as keep}
+use Rattle.runs.proofs.Steps.{runs_step as step}
+use Rattle.runs.proofs.Knows.{runs_know as know}
+use Rattle.laws.proofs.Owned.{linked_row}
+use Rattle.laws.proofs.Heads.{change_named}
+use Rattle.surveys.proofs.Raises.{no_settled_clock}
 
 not_idle : (p : Place) → ¬ (p ≡ place.Idle) → is_idle p ≡ false
 not_idle place.Idle n = absurd (n refl)
 not_idle p n = refl
-
-pub no_settled_clock : (p : Purpose) → ¬ (cell.Clock ≡ settled_field p)
-no_settled_clock (purpose.Look f l r) e = absurd cc
-no_settled_clock (purpose.Own f c r) e = absurd cc
-no_settled_clock (purpose.LostDel c r) e = absurd cc
-no_settled_clock (purpose.WonIns i r) e = absurd cc
-no_settled_clock (purpose.BindAgain o b) e = absurd cc
-no_settled_clock (purpose.Again s o b f) e = absurd cc
-no_settled_clock (purpose.Compare s b f e′ x) e = absurd cc
-no_settled_clock (purpose.Walk f k r) e = absurd cc
 
 same_link : (h g : Head) (r q : ℕ) → ◌≡◌ {A = Deed} (links h r) (links g q) → h ≡ g
 same_link h g r q e = cc
@@ -76,7 +66,7 @@ is_pending n e = elim (cases_eq n 0) [
   ]
 ]
 
-module _ (sound : RunsSound) (keep : RunsKeepLaws) (stamp : RunsStamp) (step : RunsStep) (know : RunsKnow) (R : Run) (k : ℕ) where
+module _ (R : RunInTime) (k : ℕ) where
   abbrev before : List ℕ
   before = (R.state k).cells
 
@@ -94,10 +84,10 @@ module _ (sound : RunsSound) (keep : RunsKeepLaws) (stamp : RunsStamp) (step : R
   deed_at = deed_in R.sizes before after
 
   is_old : (c : Cell) → number_at R k c ≡ old c
-  is_old c = ap (λ z. cell_at z before c) (sizes_at sound keep stamp R k)
+  is_old c = ap (λ z. cell_at z before c) (sizes_at R k)
 
   is_new : (c : Cell) → number_at R (suc k) c ≡ new c
-  is_new c = ap (λ z. cell_at z after c) (sizes_at sound keep stamp R (suc k))
+  is_new c = ap (λ z. cell_at z after c) (sizes_at R (suc k))
 
   -- an accepted turn of a worker
   pub record Taken (w : ℕ) : Type 0 where
@@ -119,16 +109,16 @@ module _ (sound : RunsSound) (keep : RunsKeepLaws) (stamp : RunsStamp) (step : R
   -- a turn at a place of a call is accepted
   pub taken_at : (w : ℕ) (p : Place) → TurnAt R k w p → ¬ (p ≡ place.Idle) → Taken w
   taken_at w p t n =
-      let l : w < (R.state k).sizes.workers = subst (λ (z : Sizes). w < z.workers) (sym (sizes_at sound keep stamp R k)) t.within in
+      let l : w < (R.state k).sizes.workers = subst (λ (z : Sizes). w < z.workers) (sym (sizes_at R k)) t.within in
       let i : is_idle (worker_at (R.state k) w).place ≡ false = ap is_idle t.place ∙ not_idle p n in
       taken_where w t.asked t.within (rw (lt-ltb w (R.state k).sizes.workers l, i) refl)
 
   module _ (w : ℕ) (t : Taken w) where
     pub changes_at : (c : Cell) → Named R.sizes c → Changes (R.state k) w c (old c) (new c)
     changes_at c n =
-        let here : w < (R.state k).sizes.workers = subst (λ (z : Sizes). w < z.workers) (sym (sizes_at sound keep stamp R k)) t.within in
+        let here : w < (R.state k).sizes.workers = subst (λ (z : Sizes). w < z.workers) (sym (sizes_at R k)) t.within in
         let laws = keep (R.state 0) R.clean (history_at R k) (R.state k) (traced R k) w here in
-        let there = subst (λ z. (c : Cell) → Named z c → Changes (R.state k) w c (cell_at z before c) (cell_at z (turned (R.state k) w).cells c)) (sizes_at sound keep stamp R k) laws.changes in
+        let there = subst (λ z. (c : Cell) → Named z c → Changes (R.state k) w c (cell_at z before c) (cell_at z (turned (R.state k) w).cells c)) (sizes_at R k) laws.changes in
         subst (λ (s : State). Changes (R.state k) w c (old c) (cell_at R.sizes s.cells c)) (sym t.next) (there c n)
 
     -- a head moves in a link turn
@@ -220,8 +210,8 @@ module _ (sound : RunsSound) (keep : RunsKeepLaws) (stamp : RunsStamp) (step : R
     end_told c r m e f =
         let did = begun_del w t c r m e f in
         let d = did.change in
-        let here : w < (R.state k).sizes.workers = subst (λ (z : Sizes). w < z.workers) (sym (sizes_at sound keep stamp R k)) t.within in
-        let fits : FitPlace (R.state k) (place.End d r) = subst (FitPlace (R.state k)) did.at ((sound_at sound keep stamp R k).places w here) in
+        let here : w < (R.state k).sizes.workers = subst (λ (z : Sizes). w < z.workers) (sym (sizes_at R k)) t.within in
+        let fits : FitPlace (R.state k) (place.End d r) = subst (FitPlace (R.state k)) did.at ((sound_at R k).places w here) in
         let known = knows (place.End d r) did.at in
         let was : number_at R k (cell.Stamp (change_kind d) Del r) ≡ 0 = is_old (cell.Stamp (change_kind d) Del r) ∙ subst (λ c. old (cell.Stamp c Del r) ≡ 0) (sym did.is) e in
         let now : number_at R (suc k) (cell.Stamp (change_kind d) Del r) ≡ pending = is_new (cell.Stamp (change_kind d) Del r) ∙ subst (λ c. new (cell.Stamp c Del r) ≡ pending) (sym did.is) f in
@@ -250,10 +240,10 @@ module _ (sound : RunsSound) (keep : RunsKeepLaws) (stamp : RunsStamp) (step : R
         let w = ev.step.worker in
         let at = ev.step.turn.place in
         let t = taken_at w (place.Link d (head_at R k (change_head d))) ev.step.turn (λ q. absurd cc) in
-        let z = sound_at sound keep stamp R k in
-        let here : w < (R.state k).sizes.workers = subst (λ (z : Sizes). w < z.workers) (sym (sizes_at sound keep stamp R k)) t.within in
+        let z = sound_at R k in
+        let here : w < (R.state k).sizes.workers = subst (λ (z : Sizes). w < z.workers) (sym (sizes_at R k)) t.within in
         let fits : FitPlace (R.state k) (place.Link d (head_at R k (change_head d))) = subst (FitPlace (R.state k)) at (z.places w here) in
-        let named : Named R.sizes (cell.Head (change_head d)) = subst (λ z. Named z (cell.Head (change_head d))) (sizes_at sound keep stamp R k) (change_named (R.state k) d fits.0) in
+        let named : Named R.sizes (cell.Head (change_head d)) = subst (λ z. Named z (cell.Head (change_head d))) (sizes_at R k) (change_named (R.state k) d fits.0) in
         let now : new (cell.Head (change_head d)) ≡ r = sym (is_new (cell.Head (change_head d))) ∙ ev.step.head in
         let moved : ¬ (old (cell.Head (change_head d)) ≡ new (cell.Head (change_head d))) = λ q. fresh d r ev (is_old (cell.Head (change_head d)) ∙ q ∙ now) (z.heads (change_head d) (change_named (R.state k) d fits.0)) in
         deed_of_head R.sizes before after (links (change_head d) r)
@@ -262,7 +252,7 @@ module _ (sound : RunsSound) (keep : RunsKeepLaws) (stamp : RunsStamp) (step : R
         (λ g n a. others d w t at g n a))
       where
         fresh : (d : Change) (r : ℕ) → LinkEvent R k b d r → number_at R k (cell.Head (change_head d)) ≡ r → RowOrNone (R.state k) (change_kind d) (number_in (R.state k) (cell.Head (change_head d))) → ⊥
-        fresh d r ev e (inl q) = (let n = linked_is_row (R.state (suc k)) (change_kind d) r ev.step.linked in omega (arith, e, q, n.0))
+        fresh d r ev e (inl q) = (let n = linked_row (R.state (suc k)) (change_kind d) r ev.step.linked in omega (arith, e, q, n.0))
         fresh d r ev e (inr l) = ev.step.fresh (subst (Linked (R.state k) (change_kind d)) e l)
 
         others : (d : Change) (w : ℕ) → Taken w → place_at R k w ≡ place.Link d (head_at R k (change_head d)) → (g : Head) → Named R.sizes (cell.Head g) → ¬ (g ≡ change_head d) → head_moved R.sizes before after g ≡ None
@@ -294,7 +284,7 @@ module _ (sound : RunsSound) (keep : RunsKeepLaws) (stamp : RunsStamp) (step : R
           (sym (is_new (cell.Stamp (change_kind d) Del r)) ∙ is_pending (number_at R (suc k) (cell.Stamp (change_kind d) Del r)) ev.after)
 
       this_row : IsRow R.sizes (change_kind d) r
-      this_row = subst (λ z. IsRow z (change_kind d) r) (sizes_at sound keep stamp R k) (linked_is_row (R.state k) (change_kind d) r ev.linked)
+      this_row = subst (λ z. IsRow z (change_kind d) r) (sizes_at R k) (linked_row (R.state k) (change_kind d) r ev.linked)
 
       these_dels : some_del_begun R.sizes before after (change_kind d) ≡ Some (ends (change_kind d) r)
       these_dels = del_found R.sizes before after (change_kind d) r (ends (change_kind d) r) this_row this_del

@@ -12,7 +12,7 @@ use Rattle.layout.specs.declared.names.Cell.TheVariants as cell
 use Rattle.layout.specs.Layout.{Named, IsRow}
 use Rattle.layout.specs.Rows.{rows_all}
 use Rattle.places.specs.Marks.{pending}
-use Rattle.stepper.specs.Turns.{cell_at}
+use Rattle.machine.specs.Turns.{cell_at}
 use Rattle.promise.specs.Sights.{Deed, Deed.links, Deed.ends, Deed.raises, first_below, head_moved, del_begun, clock_moved, some_head_moved, some_del_begun, deed_in}
 
 module _ {X : Type 0} where

@@ -17,23 +17,14 @@ use Rattle.places.specs.declared.place.Bound.{Bound}
 use Rattle.places.specs.declared.place.Change.TheVariants as change
 use Rattle.places.specs.Marks.{mark_of, stamp_of}
 use Rattle.places.specs.Touches.{head_kind}
-use Rattle.stepper.specs.Turns.{cell_at}
-use Rattle.laws.specs.Sound.{RunsSound, RunsKeepLaws}
-use Rattle.laws.specs.Stamps.{RunsStamp}
+use Rattle.machine.specs.Turns.{cell_at}
 use Rattle.order.specs.Marks.{Mark, Marks}
-use Rattle.order.specs.Raises.{VertexVisible, EdgeVisible, Joins, ShowsVisible}
+use Rattle.order.specs.Raises.{VertexVisibleByMarks, EdgeVisibleByMarks, Joins, ShowsVisible}
 use Rattle.order.specs.Marked.{Marked}
-use Rattle.order.specs.Ends.{OldRowsStand}
-use Rattle.runs.specs.Runs.{Run}
+use Rattle.runs.specs.Runs.{RunInTime}
 use Rattle.runs.specs.Views.{number_at, clock_at, head_at, mark_at, LinkedAt}
-use Rattle.runs.specs.Steps.{RunsStep}
-use Rattle.runs.specs.Times.{RunsLast}
-use Rattle.runs.specs.Starts.{RunsStartShown}
 use Rattle.runs.specs.Known.{Dead, Living, LinkEvent}
-use Rattle.runs.specs.Reasons.{RunsKnow}
-use Rattle.runs.specs.Events.{RunsEvents}
-use Rattle.runs.specs.Marking.{old_mark, ins_of, del_of, MarksTell, RunsMarked}
-use Rattle.runs.proofs.Links.{linked_is_row}
+use Rattle.runs.specs.Marking.{old_mark, ins_of, del_of, MarksTellRun}
 use Rattle.runs.proofs.Heads.{row_pos, key_event, stays_or_dead}
 use Rattle.runs.proofs.Events.{worker_knows, vertex_key, stamp_kept, living_from}
 use Rattle.runs.proofs.EdgeEvents.{head_is_linked, Still, Still.heads, Still.ends, Still.lone, still, Since, since_link, old_bound, old_edge_of, bound_since}
@@ -41,7 +32,14 @@ use Rattle.runs.proofs.Births.{vertex_change, edge_change_of, Birth, Way, Way.fr
 use Rattle.promise.specs.Left.{head_row, is_there, has_in, joins, has_edge}
 use Rattle.promise.specs.Bridges.{past_at, graph_at}
 use Rattle.promise.specs.Keyed.{marking, RunsLeave, KeysSuffice}
-use Rattle.promise.proofs.Bridges.{sizes_stay}
+use Rattle.laws.proofs.Runs.{runs_sound as sound}
+use Rattle.runs.proofs.Times.{runs_last as last}
+use Rattle.runs.proofs.Ends.{runs_events as events}
+use Rattle.runs.proofs.MarkSound.{runs_marked as marks}
+use Rattle.runs.proofs.Starts.{runs_start_shown as starts}
+use Rattle.runs.proofs.Steps.{sizes_at}
+use Rattle.laws.proofs.Owned.{linked_row}
+use Rattle.order.proofs.Ends.{old_rows_stand as stand}
 
 some_stamp : (m : View) → is_some (stamp_of m) ≡ true → (n : ℕ) × (m ≡ Stamp n)
 some_stamp NotEnded e = absurd (false≢true e)
@@ -61,9 +59,9 @@ when_so : {X : Type 0} (t : Bool) (x y : X) → cond t (Some x) None ≡ Some y 
 when_so true x y e = (refl, cc)
 when_so false x y e = absurd (let f : None ≡ Some y = e in cc)
 
-module _ (sound : RunsSound) (keep : RunsKeepLaws) (stamps : RunsStamp) (step : RunsStep) (last : RunsLast) (know : RunsKnow) (events : RunsEvents) (R : Run) (now : ℕ) where
+module _ (R : RunInTime) (now : ℕ) where
   cell_is : (c : Cell) → number_at R now c ≡ cell_at R.sizes (R.state now).cells c
-  cell_is c = ap (λ z. cell_at z (R.state now).cells c) (sizes_stay R now)
+  cell_is c = ap (λ z. cell_at z (R.state now).cells c) (sizes_at R now)
 
   -- a row whose ins bears a stamp, and whose del bears none
   pub record There (k : Kind) (r : ℕ) : Type 0 where
@@ -91,7 +89,7 @@ module _ (sound : RunsSound) (keep : RunsKeepLaws) (stamps : RunsStamp) (step : 
       let del : is_some (stamp_of (mark_of (cell_at R.sizes (R.state now).cells (cell.Stamp k Del r)))) ≡ false = no_stamp _ (λ n f. t.stays n (ap mark_of (cell_is (cell.Stamp k Del r)) ∙ f)) in
       rw (some, ins, del) refl
 
-  module _ (m : Marks) (tells : MarksTell R now m) where
+  module _ (m : Marks) (tells : MarksTellRun R now m) where
     abbrev top : ℕ
     top = clock_at R now
 
@@ -99,12 +97,12 @@ module _ (sound : RunsSound) (keep : RunsKeepLaws) (stamps : RunsStamp) (step : 
     key_told : (i : ℕ) → i < R.sizes.keys → 0 < head_at R now (head.Vertex i) → m.key_of (head_at R now (head.Vertex i)) ≡ i
     key_told i l some = elim ((last R).head now (head.Vertex i) l some) [
       | inl e ↦ tells.old_key i _ l (sym e) some
-      | inr p ↦ (let ev = key_event step last R now (worker_knows sound keep stamps step last know R now) p.time p.before i _ p.held in tells.key p.time ev.0 i _ ev.1 p.before)
+      | inr p ↦ (let ev = key_event R now (worker_knows R now) p.time p.before i _ p.held in tells.key p.time ev.0 i _ ev.1 p.before)
     ]
 
     -- and so is what was alive there
     living_told : (j s t : ℕ) → j < R.sizes.keys → t ≤ now → Living R t j s → m.key_of s ≡ j
-    living_told j s t n l v = elim (living_from sound keep stamps step last know R n v) [
+    living_told j s t n l v = elim (living_from R n v) [
       | inl e ↦ tells.old_key j s n e (row_pos R t s v.linked)
       | inr p ↦ tells.key p.time p.held.0 j s p.held.1 (omega (arith, p.before, l))
     ]
@@ -129,14 +127,14 @@ module _ (sound : RunsSound) (keep : RunsKeepLaws) (stamps : RunsStamp) (step : 
         subst (λ (x : Mark). top < x.stamp) (sym e) (omega arith)
 
     -- and a row with such marks is there
-    told_there : (k : Kind) (r : ℕ) → (ins_of m k r).stamp ≤ top → top < (del_of m k r).stamp → (h : Birth sound keep stamps step last know events R now k r) × There k r
-    told_there k r low high = elim (born_or sound keep stamps step last know events R now k r) [
-      | inl h ↦ (let b = bears h.time h.stamp h.way in (h, record { some = (linked_is_row (R.state now) k r h.linked).0; stamp = b.0; born = b.1; stays = stays h.linked }))
+    told_there : (k : Kind) (r : ℕ) → (ins_of m k r).stamp ≤ top → top < (del_of m k r).stamp → (h : Birth R now k r) × There k r
+    told_there k r low high = elim (born_or R now k r) [
+      | inl h ↦ (let b = bears h.time h.stamp h.way in (h, record { some = (linked_row (R.state now) k r h.linked).0; stamp = b.0; born = b.1; stays = stays h.linked }))
       | inr n ↦ absurd (let e = tells.unborn k r n in let x : top + 2 ≤ top = subst (λ (x : Mark). x.stamp ≤ top) e low in omega (arith, x))
     ]
       where
-        bears : (p n : ℕ) → Way sound keep stamps step last know events R now k r p n → (n : ℕ) × (mark_at R now k Ins r ≡ Stamp n)
-        bears p n (from_start o a b) = (let x = (last R).old_row k r o in (x.number, stamp_kept sound keep stamps step last know R 0 now k Ins r x.number (omega arith) o x.stamp))
+        bears : (p n : ℕ) → Way R now k r p n → (n : ℕ) × (mark_at R now k Ins r ≡ Stamp n)
+        bears p n (from_start o a b) = (let x = (last R).old_row k r o in (x.number, stamp_kept R 0 now k Ins r x.number (omega arith) o x.stamp))
         bears p n (by_link x) = (n, x.is)
 
         stays : LinkedAt R now k r → (n : ℕ) → ¬ (mark_at R now k Del r ≡ Stamp n)
@@ -148,21 +146,21 @@ module _ (sound : RunsSound) (keep : RunsKeepLaws) (stamps : RunsStamp) (step : 
             omega (arith, x.1, y))
 
     rows_same : (k : Kind) → rows_all (R.state now).sizes k ≡ rows_all R.sizes k
-    rows_same k = ap (λ z. rows_all z k) (sizes_stay R now)
+    rows_same k = ap (λ z. rows_all z k) (sizes_at R now)
 
     vertex_row : (r : ℕ) → LinkedAt R now Vertex r → r < m.vertices
-    vertex_row r l = omega (arith, tells.vertices, (linked_is_row (R.state now) Vertex r l).1, rows_same Vertex)
+    vertex_row r l = omega (arith, tells.vertices, (linked_row (R.state now) Vertex r l).1, rows_same Vertex)
 
     edge_row : (r : ℕ) → LinkedAt R now Edge r → r < m.edges
-    edge_row r l = omega (arith, tells.edges, (linked_is_row (R.state now) Edge r l).1, rows_same Edge)
+    edge_row r l = omega (arith, tells.edges, (linked_row (R.state now) Edge r l).1, rows_same Edge)
 
     -- a vertex that is shown
-    visible : (i : ℕ) → has_in R.sizes (R.state now).cells i ≡ true → VertexVisible m top (head_at R now (head.Vertex i)) × (m.key_of (head_at R now (head.Vertex i)) ≡ i)
+    visible : (i : ℕ) → has_in R.sizes (R.state now).cells i ≡ true → VertexVisibleByMarks m top (head_at R now (head.Vertex i)) × (m.key_of (head_at R now (head.Vertex i)) ≡ i)
     visible i e =
         let (l, t) = and_parts (nat_lt i R.sizes.keys) (is_there R.sizes (R.state now).cells Vertex (head_row R.sizes (R.state now).cells (head.Vertex i))) e in
         let key : i < R.sizes.keys = grind (arith, nat_tests) in
         let here : There Vertex (head_at R now (head.Vertex i)) = subst (There Vertex) (sym (cell_is (cell.Head (head.Vertex i)))) (there Vertex _ t) in
-        let linked = head_is_linked sound keep stamps step last know R now (head.Vertex i) key here.some in
+        let linked = head_is_linked R now (head.Vertex i) key here.some in
         (record { row = vertex_row _ linked; born = born_low Vertex _ linked here; ends = ends_high Vertex _ here }, key_told i key here.some)
 
     -- a visible vertex row is the head of its key
@@ -184,22 +182,22 @@ module _ (sound : RunsSound) (keep : RunsKeepLaws) (stamps : RunsStamp) (step : 
         let q : a ≡ i = sym (tells.old_key a v n z some) ∙ e in
         record { time = 0; before = omega arith; key = subst (λ j. j < R.sizes.keys) q n; head = ap (λ j. head_at R 0 (head.Vertex j)) (sym q) ∙ z }
 
-    was_head : (i v p n : ℕ) → m.key_of v ≡ i → 0 < v → Way sound keep stamps step last know events R now Vertex v p n → WasHead i v
+    was_head : (i v p n : ℕ) → m.key_of v ≡ i → 0 < v → Way R now Vertex v p n → WasHead i v
     was_head i v p n e some (from_start o a b) = let x = (last R).old_row Vertex v o in old_head i v e x.head x.named x.kind x.is some
     was_head i v p n e some (by_link x) =
         let (j, c) = vertex_change x.linking.change x.linking.kind in
         let ev : LinkEvent R p x.linking.began (change.Vertex j) v = subst (λ d. LinkEvent R p x.linking.began d v) c x.linking.event in
         let same : j ≡ i = sym (tells.key p x.linking.began j v ev x.before) ∙ e in
         let ev′ : LinkEvent R p x.linking.began (change.Vertex i) v = subst (λ j. LinkEvent R p x.linking.began (change.Vertex j) v) same ev in
-        record { time = suc p; before = x.before; key = vertex_key sound keep stamps step last know R ev′; head = ev′.step.head }
+        record { time = suc p; before = x.before; key = vertex_key R ev′; head = ev′.step.head }
 
-    heads_at : (i v : ℕ) → VertexVisible m top v → m.key_of v ≡ i → Heads i v
+    heads_at : (i v : ℕ) → VertexVisibleByMarks m top v → m.key_of v ≡ i → Heads i v
     heads_at i v x e =
         let (h, t) = told_there Vertex v x.born x.ends in
         let w = was_head i v h.time h.stamp e t.some h.way in
         record {
           key = w.key;
-          head = elim (stays_or_dead step last R now (worker_knows sound keep stamps step last know R now) i w.key v w.time now t.some w.before (omega arith) w.head) [
+          head = elim (stays_or_dead R now (worker_knows R now) i w.key v w.time now t.some w.before (omega arith) w.head) [
             | inl q ↦ q
             | inr d ↦ absurd (t.stays d.ended.number d.ended.is)
           ];
@@ -214,14 +212,14 @@ module _ (sound : RunsSound) (keep : RunsKeepLaws) (stamps : RunsStamp) (step : 
     key_of_has : (i : ℕ) → has_in R.sizes (R.state now).cells i ≡ true → i < R.sizes.keys
     key_of_has i e = (let t = (and_parts (nat_lt i R.sizes.keys) _ e).0 in grind (arith, nat_tests))
 
-    is_head : (e : ℕ) (d : Bound) → There Edge e → Still sound keep stamps step last know R now (head.Edge d.pair.from d.pair.to) e d → ¬ (Dead R now d.source) → ¬ (Dead R now d.target) → head_at R now (head.Edge d.pair.from d.pair.to) ≡ e
+    is_head : (e : ℕ) (d : Bound) → There Edge e → Still R now (head.Edge d.pair.from d.pair.to) e d → ¬ (Dead R now d.source) → ¬ (Dead R now d.target) → head_at R now (head.Edge d.pair.from d.pair.to) ≡ e
     is_head e d t (heads q) n o = q
     is_head e d t (ends s) n o = absurd (t.stays s.number s.is)
     is_head e d t (lone (inl x)) n o = absurd (n x)
     is_head e d t (lone (inr x)) n o = absurd (o x)
 
     -- the edge of a pair
-    edge_visible : (i j x : ℕ) → (graph_at R now).edge i j ≡ Some x → (e : ℕ) × EdgeVisible m top e × Joins m e i j x
+    edge_visible : (i j x : ℕ) → (graph_at R now).edge i j ≡ Some x → (e : ℕ) × EdgeVisibleByMarks m top e × Joins m e i j x
     edge_visible i j x f =
         let (t, w) = when_so (has_edge R.sizes (R.state now).cells i j) _ x f in
         let (both, rest) = and_parts (has_in R.sizes (R.state now).cells i && has_in R.sizes (R.state now).cells j) _ t in
@@ -233,7 +231,7 @@ module _ (sound : RunsSound) (keep : RunsKeepLaws) (stamps : RunsStamp) (step : 
         let high : 0 < head_at R now (head.Edge i j) = subst (λ e. 0 < e) (sym (cell_is (cell.Head (head.Edge i j)))) here.some in
         let ki : i < R.sizes.keys = key_of_has i from in
         let kj : j < R.sizes.keys = key_of_has j to in
-        let linked : LinkedAt R now Edge e = subst (LinkedAt R now Edge) (cell_is (cell.Head (head.Edge i j))) (head_is_linked sound keep stamps step last know R now (head.Edge i j) (ki, kj) high) in
+        let linked : LinkedAt R now Edge e = subst (LinkedAt R now Edge) (cell_is (cell.Head (head.Edge i j))) (head_is_linked R now (head.Edge i j) (ki, kj) high) in
         let source : m.source e ≡ head_at R now (head.Vertex i) = tells.source e ∙ cell_is (cell.Source e) ∙ eqb-true _ _ s ∙ sym (cell_is (cell.Head (head.Vertex i))) in
         let target : m.target e ≡ head_at R now (head.Vertex j) = tells.target e ∙ cell_is (cell.Target e) ∙ eqb-true _ _ d ∙ sym (cell_is (cell.Head (head.Vertex j))) in
         let u = visible i from in
@@ -243,8 +241,8 @@ module _ (sound : RunsSound) (keep : RunsKeepLaws) (stamps : RunsStamp) (step : 
             row = edge_row e linked;
             born = born_low Edge e linked here;
             ends = ends_high Edge e here;
-            source = subst (VertexVisible m top) (sym source) u.0;
-            target = subst (VertexVisible m top) (sym target) v.0;
+            source = subst (VertexVisibleByMarks m top) (sym source) u.0;
+            target = subst (VertexVisibleByMarks m top) (sym target) v.0;
           },
           record { from = ap m.key_of source ∙ u.1; to = ap m.key_of target ∙ v.1; weight = tells.weight e ∙ cell_is (cell.Weight e) ∙ w },
         )
@@ -254,32 +252,32 @@ module _ (sound : RunsSound) (keep : RunsKeepLaws) (stamps : RunsStamp) (step : 
       pub time : ℕ
       pub before : time ≤ now
       pub bound : Bound
-      pub since : Since sound keep stamps step last know R time e bound
+      pub since : Since R time e bound
 
-    stood : (e p n : ℕ) → Way sound keep stamps step last know events R now Edge e p n → Stood e
+    stood : (e p n : ℕ) → Way R now Edge e p n → Stood e
     stood e p n (from_start o a b) =
-        let x = old_edge_of sound keep stamps step last know R e o in
-        record { time = 0; before = omega arith; bound = old_bound sound keep stamps step last know R x.from x.to e; since = x.since }
+        let x = old_edge_of R e o in
+        record { time = 0; before = omega arith; bound = old_bound R x.from x.to e; since = x.since }
     stood e p n (by_link x) =
         let (d, c) = edge_change_of x.linking.change x.linking.kind in
         let ev : LinkEvent R p x.linking.began (change.Edge d) e = subst (λ d. LinkEvent R p x.linking.began d e) c x.linking.event in
-        record { time = suc p; before = x.before; bound = d; since = since_link sound keep stamps step last know R ev }
+        record { time = suc p; before = x.before; bound = d; since = since_link R ev }
 
-    edge_shown : (i j x e : ℕ) → EdgeVisible m top e → Joins m e i j x → (graph_at R now).edge i j ≡ Some x
+    edge_shown : (i j x e : ℕ) → EdgeVisibleByMarks m top e → Joins m e i j x → (graph_at R now).edge i j ≡ Some x
     edge_shown i j x e v a =
         let (h, t) = told_there Edge e v.born v.ends in
         let w = stood e h.time h.stamp h.way in
         let d : Bound = w.bound in
         let s = heads_at i (m.source e) v.source a.from in
         let u = heads_at j (m.target e) v.target a.to in
-        let bound = bound_since sound keep stamps step last know R w.since now w.before in
+        let bound = bound_since R w.since now w.before in
         let source : m.source e ≡ d.source = tells.source e ∙ bound.0 in
         let target : m.target e ≡ d.target = tells.target e ∙ bound.1 in
         let from : d.pair.from ≡ i = sym (living_told d.pair.from d.source w.since.source_time w.since.keys.0 (omega (arith, w.since.source_by, w.before)) w.since.source) ∙ ap m.key_of (sym source) ∙ a.from in
         let to : d.pair.to ≡ j = sym (living_told d.pair.to d.target w.since.target_time w.since.keys.1 (omega (arith, w.since.target_by, w.before)) w.since.target) ∙ ap m.key_of (sym target) ∙ a.to in
         let there_from = λ (dead : Dead R now d.source). s.there.stays dead.ended.number (ap (mark_at R now Vertex Del) source ∙ dead.ended.is) in
         let there_to = λ (dead : Dead R now d.target). u.there.stays dead.ended.number (ap (mark_at R now Vertex Del) target ∙ dead.ended.is) in
-        let at : head_at R now (head.Edge i j) ≡ e = ap₂ (λ i j. head_at R now (head.Edge i j)) (sym from) (sym to) ∙ is_head e d t (still sound keep stamps step last know R w.since now w.before) there_from there_to in
+        let at : head_at R now (head.Edge i j) ≡ e = ap₂ (λ i j. head_at R now (head.Edge i j)) (sym from) (sym to) ∙ is_head e d t (still R w.since now w.before) there_from there_to in
         let row : head_row R.sizes (R.state now).cells (head.Edge i j) ≡ e = sym (cell_is (cell.Head (head.Edge i j))) ∙ at in
         let one : (cell_at R.sizes (R.state now).cells (cell.Source e) == head_row R.sizes (R.state now).cells (head.Vertex i)) ≡ true = eq-eqb _ _ (sym (tells.source e ∙ cell_is (cell.Source e)) ∙ sym s.head ∙ cell_is (cell.Head (head.Vertex i))) in
         let two : (cell_at R.sizes (R.state now).cells (cell.Target e) == head_row R.sizes (R.state now).cells (head.Vertex j)) ≡ true = eq-eqb _ _ (sym (tells.target e ∙ cell_is (cell.Target e)) ∙ sym u.head ∙ cell_is (cell.Head (head.Vertex j))) in
@@ -298,11 +296,11 @@ module _ (sound : RunsSound) (keep : RunsKeepLaws) (stamps : RunsStamp) (step : 
       edges = λ i j x. (edge_visible i j x, λ v. edge_shown i j x v.0 v.1 v.2);
     }
 
-pub runs_leave : RunsSound → RunsKeepLaws → RunsStamp → RunsStep → RunsLast → RunsKnow → RunsEvents → RunsLeave
-runs_leave sound keep stamps step last know events R now m tells = leaves sound keep stamps step last know events R now m tells
+pub runs_leave : RunsLeave
+runs_leave R now m tells = leaves R now m tells
 
-pub keys_suffice : RunsSound → RunsKeepLaws → RunsStamp → RunsStep → RunsLast → RunsKnow → RunsEvents → RunsMarked → RunsStartShown → OldRowsStand → KeysSuffice
-keys_suffice sound keep stamps step last know events marks starts stand keyed R g shows now =
+pub keys_suffice : KeysSuffice
+keys_suffice keyed R g shows now =
     let m = marks R now in
     let (key, change, calls) = keyed R now m in
     let run = marking R now m.marks key change in
@@ -321,4 +319,4 @@ keys_suffice sound keep stamps step last know events marks starts stand keyed R 
       edge_endings = calls.edge_endings;
     } in
     let old = starts R now g shows run refl m.tells in
-    stand (past_at R now) run marked old.1 g (graph_at R now) old.0 (leaves sound keep stamps step last know events R now m.marks m.tells)
+    stand (past_at R now) run marked old.1 g (graph_at R now) old.0 (leaves R now m.marks m.tells)

@@ -8,10 +8,10 @@ use Rattle.layout.specs.declared.names.Head.{Head}
 use Rattle.layout.specs.declared.names.Head.TheVariants as head
 use Rattle.layout.specs.declared.names.Cell.TheVariants as cell
 use Rattle.layout.specs.Layout.{needed, Named}
-use Rattle.stepper.specs.Turns.{cell_at}
+use Rattle.machine.specs.Turns.{cell_at}
 use Rattle.walks.specs.Budgets.{sum_below}
 use Rattle.walks.proofs.Sums.{sum_le}
-use Rattle.stepper.specs.Opening.{opened_state}
+use Rattle.machine.specs.Opening.{opened_state}
 use Rattle.questions.specs.Graph.{Graph}
 use Rattle.order.specs.Graph.{empty}
 use Rattle.laws.proofs.Clean.{head_none}

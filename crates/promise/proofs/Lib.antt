@@ -12,9 +12,12 @@ mod Stamps
 mod Pages
 mod Rests
 mod CountRuns
+mod Chains
 mod Bounded
 mod Surveys
 mod Answered
 mod Leaves
 mod SurveyKeys
 mod Points
+pub mod Theorems
+pub mod Contracts

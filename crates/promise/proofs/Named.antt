@@ -7,7 +7,7 @@ use Rattle.std.proofs.lemmas.Bool.Decides.{nat_tests}
 use Rattle.layout.specs.declared.sizes.Sizes.{Sizes}
 use Rattle.layout.specs.declared.names.Cell.TheVariants as cell
 use Rattle.layout.specs.Layout.{page_size, page_start}
-use Rattle.stepper.specs.Turns.{cell_at}
+use Rattle.machine.specs.Turns.{cell_at}
 use Rattle.questions.specs.Pages.{weight_of}
 use Rattle.promise.specs.Sights.{page_in, page_graph}
 use Rattle.promise.specs.Named.{PagesNamed}

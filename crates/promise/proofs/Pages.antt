@@ -10,12 +10,7 @@ use Rattle.layout.specs.declared.names.Kind.{Kind}
 use Rattle.layout.specs.declared.names.Cell.TheVariants as cell
 use Rattle.codes.specs.declared.answer.Answer.{Answer}
 use Rattle.places.specs.declared.call.Begin.{Begin}
-use Rattle.places.specs.declared.place.Op.{Op}
 use Rattle.places.specs.declared.place.Op.TheVariants.{Add, Remove}
-use Rattle.places.specs.declared.place.Look.{Look}
-use Rattle.places.specs.declared.place.Look.TheVariants as look
-use Rattle.places.specs.declared.place.Change.{Change}
-use Rattle.places.specs.declared.place.Change.TheVariants as change
 use Rattle.places.specs.declared.place.Survey.{Survey}
 use Rattle.places.specs.declared.place.Call.{Call}
 use Rattle.places.specs.declared.place.Call.TheVariants as call
@@ -25,38 +20,38 @@ use Rattle.places.specs.declared.place.Place.{Place}
 use Rattle.places.specs.declared.place.Place.TheVariants as place
 use Rattle.places.specs.Touches.{settled_field}
 use Rattle.places.specs.Calls.{call_named}
-use Rattle.stepper.specs.declared.request.Request.{Request}
-use Rattle.stepper.specs.declared.request.Request.TheVariants as request
-use Rattle.stepper.specs.declared.request.Reply.{Reply}
-use Rattle.stepper.specs.declared.request.Reply.TheVariants as reply
-use Rattle.stepper.specs.declared.worker.Worker.{Worker}
-use Rattle.stepper.specs.States.{State}
-use Rattle.stepper.specs.Turns.{worker_at, cell_at, answer_at, turned}
-use Rattle.stepper.specs.Workers.{finishes}
-use Rattle.stepper.specs.Requests.{begun_as, state_begun, answered_or, reply_of}
+use Rattle.machine.specs.declared.request.Request.{Request}
+use Rattle.machine.specs.declared.request.Request.TheVariants as request
+use Rattle.machine.specs.declared.request.Reply.{Reply}
+use Rattle.machine.specs.declared.request.Reply.TheVariants as reply
+use Rattle.machine.specs.declared.worker.Worker.{Worker}
+use Rattle.machine.specs.States.{State}
+use Rattle.machine.specs.Turns.{worker_at, cell_at, answer_at, turned}
+use Rattle.machine.specs.Workers.{finishes}
+use Rattle.machine.specs.Requests.{call_to_begin, state_begun, answered_or, reply_of}
 use Rattle.laws.specs.Changes.{OnPage, OfRow, Surveys, Changes, Changes.keeps, Changes.ticks, Changes.links, Changes.stamps, Changes.ends, Changes.fills, Changes.writes}
-use Rattle.laws.specs.Sound.{RunsSound, RunsKeepLaws}
-use Rattle.laws.specs.Stamps.{RunsStamp}
 use Rattle.laws.proofs.Pages.{page_cell_lem}
 use Rattle.order.specs.Seen as timed
-use Rattle.runs.specs.Runs.{Run, history_at}
+use Rattle.runs.specs.Runs.{RunInTime, history_at}
 use Rattle.runs.specs.Views.{place_at}
 use Rattle.runs.specs.Seen.{open_at, page_graph as masked, sight_of as timed_sight}
-use Rattle.runs.specs.Steps.{RunsStep}
-use Rattle.runs.specs.Purposes.{InCall, change_op, change_call, look_call}
-use Rattle.runs.specs.Reasons.{BegunBy, WorkerKnows, WorkerKnows.free, WorkerKnows.busy, RunsKnow}
-use Rattle.runs.specs.Sights.{RunsSeen}
-use Rattle.runs.specs.Once.{RunsChangeOnce}
+use Rattle.runs.specs.Purposes.{InCall, change_op}
+use Rattle.runs.specs.Reasons.{BegunBy, WorkerKnows, WorkerKnows.free, WorkerKnows.busy}
 use Rattle.runs.proofs.Histories.{traced}
 use Rattle.runs.proofs.Turns.{others_after}
+use Rattle.laws.proofs.Taken.{begin_taken, begun_others}
 use Rattle.runs.proofs.Opens.{begin_opens, runs_keeps, answer_closes}
-use Rattle.runs.proofs.Steps.{StepCase, StepCase.keeps, StepCase.begins, StepCase.turns, begin_taken, begun_others, sound_at, sizes_at, case_at, here, within}
+use Rattle.runs.proofs.Steps.{StepCase, StepCase.rests as rest, StepCase.begins, StepCase.turns, sound_at, sizes_at, case_at, here, within}
 use Rattle.promise.specs.Sights.{Sight.begins, Sight.turns, page_in}
 use Rattle.promise.specs.Promise.{is_survey, page_after, finished_page}
 use Rattle.promise.specs.Bridges.{shown_at, RunsKeepPages}
 use Rattle.promise.proofs.Bridges.{sight_at}
 use Rattle.promise.proofs.Deeds.{Taken, changes_at}
-use Rattle.promise.proofs.DeedRuns.{opened_at, same_begin, sight_is, sight_in, refused_rests}
+use Rattle.promise.proofs.DeedRuns.{opened_at, same_begin, sight_is, sight_in, rest_seen}
+use Rattle.laws.proofs.Runs.{runs_keep_laws as keep}
+use Rattle.runs.proofs.Knows.{runs_know as know}
+use Rattle.runs.proofs.Sights.{runs_seen as seen}
+use Rattle.walks.proofs.RunSurveys.{look_none, change_none}
 
 same_lists : (xs ys : List ℕ) → length xs ≡ length ys → ((i : ℕ) → i < length xs → get_or xs i 0 ≡ get_or ys i 0) → xs ≡ ys
 same_lists [] [] e h = refl
@@ -68,9 +63,9 @@ no_page_field : (w : ℕ) (p : Purpose) → OnPage w (settled_field p) → ⊥
 no_page_field w (purpose.Look f l r) o = o
 no_page_field w (purpose.Own f c r) o = o
 no_page_field w (purpose.LostDel c r) o = o
-no_page_field w (purpose.WonIns i r) o = o
-no_page_field w (purpose.BindAgain q b) o = o
-no_page_field w (purpose.Again s q b f) o = o
+no_page_field w (purpose.WinnerIns i r) o = o
+no_page_field w (purpose.SourceAgain q b) o = o
+no_page_field w (purpose.CheckAgain s q b f) o = o
 no_page_field w (purpose.Compare s b f e x) o = o
 no_page_field w (purpose.Walk f k r) o = o
 
@@ -106,29 +101,19 @@ survey_call (place.WalkHead k) c i q = (k.survey, sym i)
 survey_call (place.WalkOlder k r) c i q = (k.survey, sym i)
 survey_call p c i q = absurd q
 
-no_survey_call : (a : Op) (d : Change) (v : Survey) → change_call a d ≡ call.Survey v → ⊥
-no_survey_call a (change.Vertex i) v e = absurd cc
-no_survey_call a (change.Edge b) v e = absurd cc
-
-no_survey_look : (l : Look) (v : Survey) → look_call l ≡ call.Survey v → ⊥
-no_survey_look (look.Vertex o i) v e = absurd cc
-no_survey_look (look.Source o p) v e = absurd cc
-no_survey_look (look.Target o p r) v e = absurd cc
-no_survey_look (look.Edge o b) v e = absurd cc
-
 pub place_surveys : (p : Place) (v : Survey) → InCall p (call.Survey v) → Surveys p
 place_surveys place.Idle v i = absurd i
-place_surveys (place.Head l) v i = absurd (no_survey_look l v i)
+place_surveys (place.Head l) v i = absurd (look_none l v i)
 place_surveys (place.Settle st (purpose.Walk f k r)) v i = tt
-place_surveys (place.Settle st (purpose.Look f l r)) v i = absurd (no_survey_look l v i)
-place_surveys (place.Settle st (purpose.Own f c r)) v i = absurd (no_survey_call (change_op f) c v i)
-place_surveys (place.Settle st (purpose.LostDel c r)) v i = absurd (no_survey_call Remove c v i)
-place_surveys (place.Settle st (purpose.WonIns j r)) v i = absurd cc
-place_surveys (place.Settle st (purpose.BindAgain o b)) v i = absurd cc
-place_surveys (place.Settle st (purpose.Again s o b f)) v i = absurd cc
+place_surveys (place.Settle st (purpose.Look f l r)) v i = absurd (look_none l v i)
+place_surveys (place.Settle st (purpose.Own f c r)) v i = absurd (change_none c (change_op f) v i)
+place_surveys (place.Settle st (purpose.LostDel c r)) v i = absurd (change_none c Remove v i)
+place_surveys (place.Settle st (purpose.WinnerIns j r)) v i = absurd cc
+place_surveys (place.Settle st (purpose.SourceAgain o b)) v i = absurd cc
+place_surveys (place.Settle st (purpose.CheckAgain s o b f)) v i = absurd cc
 place_surveys (place.Settle st (purpose.Compare s b f e x)) v i = absurd cc
-place_surveys (place.Link d h) v i = absurd (no_survey_call Add d v i)
-place_surveys (place.End d r) v i = absurd (no_survey_call Remove d v i)
+place_surveys (place.Link d h) v i = absurd (change_none d Add v i)
+place_surveys (place.End d r) v i = absurd (change_none d Remove v i)
 place_surveys (place.LostHead j) v i = absurd cc
 place_surveys (place.Raise u) v i = tt
 place_surveys (place.WalkHead k) v i = tt
@@ -140,7 +125,7 @@ is_survey_of (call.Vertex o i) e v f = absurd cc
 is_survey_of (call.Edge o p) e v f = absurd cc
 is_survey_of (call.Survey u) e v f = absurd (let x : true ≡ false = e in cc)
 
-module _ (sound : RunsSound) (keep : RunsKeepLaws) (stamp : RunsStamp) (step : RunsStep) (know : RunsKnow) (seen : RunsSeen) (once : RunsChangeOnce) (R : Run) where
+module _ (R : RunInTime) where
   -- a worker whose page is finished: it shows what it showed, and the worker is in no snapshot or reach
   pub record PageKept (k w : ℕ) (page : List ℕ) : Type 0 where
     pub within : w < R.sizes.workers
@@ -151,7 +136,7 @@ module _ (sound : RunsSound) (keep : RunsKeepLaws) (stamp : RunsStamp) (step : R
   room k = needed R.sizes ≤ length (R.state k).cells
 
   room_at : (k : ℕ) → room k
-  room_at k = subst (λ z. needed z ≤ length (R.state k).cells) (sizes_at sound keep stamp R k) (sound_at sound keep stamp R k).cells
+  room_at k = subst (λ z. needed z ≤ length (R.state k).cells) (sizes_at R k) (sound_at R k).cells
 
   -- a step that leaves the worker's place and the cells of its page
   keeps_on : (k w : ℕ) (page : List ℕ) → PageKept k w page → place_at R (suc k) w ≡ place_at R k w →
@@ -163,8 +148,8 @@ module _ (sound : RunsSound) (keep : RunsKeepLaws) (stamp : RunsStamp) (step : R
   }
 
   -- a turn of the worker itself, in no snapshot or reach: its page stays
-  own_page : (k w : ℕ) (t : Taken sound keep stamp step know R k w) → ¬ (Surveys (place_at R k w)) → (c : Cell) → Named R.sizes c → OnPage w c → cell_at R.sizes (R.state (suc k)).cells c ≡ cell_at R.sizes (R.state k).cells c
-  own_page k w t n c m o = go (cell_at R.sizes (R.state k).cells c) (cell_at R.sizes (R.state (suc k)).cells c) (changes_at sound keep stamp step know R k w t c m)
+  own_page : (k w : ℕ) (t : Taken R k w) → ¬ (Surveys (place_at R k w)) → (c : Cell) → Named R.sizes c → OnPage w c → cell_at R.sizes (R.state (suc k)).cells c ≡ cell_at R.sizes (R.state k).cells c
+  own_page k w t n c m o = go (cell_at R.sizes (R.state k).cells c) (cell_at R.sizes (R.state (suc k)).cells c) (changes_at R k w t c m)
     where
       go : (x y : ℕ) → Changes (R.state k) w c x y → y ≡ x
       go x y (keeps e) = e
@@ -176,17 +161,17 @@ module _ (sound : RunsSound) (keep : RunsKeepLaws) (stamp : RunsStamp) (step : R
       go x y (writes i q) = absurd (n q)
 
   -- another worker's turn leaves the place and the page
-  other_turn : (k u w : ℕ) (page : List ℕ) (t : Taken sound keep stamp step know R k u) → ¬ (w ≡ u) → PageKept k w page → PageKept (suc k) w page
+  other_turn : (k u w : ℕ) (page : List ℕ) (t : Taken R k u) → ¬ (w ≡ u) → PageKept k w page → PageKept (suc k) w page
   other_turn k u w page t n p =
-      let l = here sound keep stamp R k u t.asked t.accepted t.next in
+      let l = here R k u t.asked t.accepted t.next in
       let laws = keep (R.state 0) R.clean (history_at R k) (R.state k) (traced R k) u l in
-      let pages = subst (λ z. (c : Cell) → Named z c → OnPage w c → cell_at z (turned (R.state k) u).cells c ≡ cell_at z (R.state k).cells c) (sizes_at sound keep stamp R k) (λ c m o. laws.pages w c m o n) in
+      let pages = subst (λ z. (c : Cell) → Named z c → OnPage w c → cell_at z (turned (R.state k) u).cells c ≡ cell_at z (R.state k).cells c) (sizes_at R k) (λ c m o. laws.pages w c m o n) in
       keeps_on k w page p
-      (ap (λ s. (worker_at s w).place) t.next ∙ ap (λ (v : Worker). v.place) (others_after (R.state k) u (sound_at sound keep stamp R k) l w n))
+      (ap (λ s. (worker_at s w).place) t.next ∙ ap (λ (v : Worker). v.place) (others_after (R.state k) u (sound_at R k) l w n))
       (λ c m o. ap (λ (s : State). cell_at R.sizes s.cells c) t.next ∙ pages c m o)
 
   -- a worker that answers is idle
-  pub idle_after : (k u : ℕ) (t : Taken sound keep stamp step know R k u) (a : Answer) → answer_at (R.state k) u ≡ Some a → place_at R (suc k) u ≡ place.Idle
+  pub idle_after : (k u : ℕ) (t : Taken R k u) (a : Answer) → answer_at (R.state k) u ≡ Some a → place_at R (suc k) u ≡ place.Idle
   idle_after k u t a e = go ((know R).workers (suc k) u t.within)
     where
       closed : open_at R (suc k) u ≡ None
@@ -200,7 +185,7 @@ module _ (sound : RunsSound) (keep : RunsKeepLaws) (stamp : RunsStamp) (step : R
   idle_out k w e q = subst Surveys e q
 
   -- a turn that does not answer stays in its call
-  own_out : (k u : ℕ) (t : Taken sound keep stamp step know R k u) → answer_at (R.state k) u ≡ None → ¬ (Surveys (place_at R k u)) → ¬ (Surveys (place_at R (suc k) u))
+  own_out : (k u : ℕ) (t : Taken R k u) → answer_at (R.state k) u ≡ None → ¬ (Surveys (place_at R k u)) → ¬ (Surveys (place_at R (suc k) u))
   own_out k u t e out q = go ((know R).workers (suc k) u t.within)
     where
       opens : open_at R (suc k) u ≡ open_at R k u
@@ -210,11 +195,11 @@ module _ (sound : RunsSound) (keep : RunsKeepLaws) (stamp : RunsStamp) (step : R
       go (free o i) = subst Surveys i q
       go (busy b c o g i n) = (
           let (v, is) = survey_call (place_at R (suc k) u) c i q in
-          let was = opened_at sound keep stamp step know once R k u b t.within (sym opens ∙ o) in
-          let same = (same_begin sound keep stamp step know once R was.begun g).1 in
+          let was = opened_at R k u b t.within (sym opens ∙ o) in
+          let same = (same_begin R was.begun g).1 in
           out (place_surveys (place_at R k u) v (subst (InCall (place_at R k u)) (same ∙ is) was.place)))
 
-  own_turn : (k u : ℕ) (page : List ℕ) (t : Taken sound keep stamp step know R k u) → PageKept k u page → ¬ (Surveys (place_at R (suc k) u)) → PageKept (suc k) u page
+  own_turn : (k u : ℕ) (page : List ℕ) (t : Taken R k u) → PageKept k u page → ¬ (Surveys (place_at R (suc k) u)) → PageKept (suc k) u page
   own_turn k u page t p out = record {
     within = p.within;
     same = same_page R.sizes u p.within (R.state (suc k)).cells (R.state k).cells (room_at (suc k)) (room_at k) (own_page k u t p.out) ∙ p.same;
@@ -222,21 +207,21 @@ module _ (sound : RunsSound) (keep : RunsKeepLaws) (stamp : RunsStamp) (step : R
   }
 
   -- a begin
-  module _ (k : ℕ) (b : Begin) (c : Call) (q : R.request k ≡ request.Begin b) (a : begun_as (R.state k) b ≡ Ok c) (f : reply_of (R.state k) (R.request k) ≡ reply.Done) (s : R.state (suc k) ≡ state_begun (R.state k) b.worker (Ok c)) where
+  module _ (k : ℕ) (b : Begin) (c : Call) (q : R.request k ≡ request.Begin b) (a : call_to_begin (R.state k) b ≡ Ok c) (f : reply_of (R.state k) (R.request k) ≡ reply.Done) (s : R.state (suc k) ≡ state_begun (R.state k) b.worker (Ok c)) where
     pub begun_by : BegunBy R (suc k) b.worker k c
     begun_by = record { before = omega arith; begin = b; asked = q; worker = refl; call = a }
 
     pub is_named : c ≡ call_named b
     is_named =
-        let x : timed.Sight.begins b.worker (call_named b) ≡ timed.Sight.begins b.worker c = sym (ap₂ (λ q r. timed_sight (masked (R.state (suc k))) q r) q f) ∙ (seen R).begun (suc k) b.worker k c begun_by in cc
+        let x : timed.CallSight.begins b.worker (call_named b) ≡ timed.CallSight.begins b.worker c = sym (ap₂ (λ q r. timed_sight (masked (R.state (suc k))) q r) q f) ∙ (seen R).begun (suc k) b.worker k c begun_by in cc
 
     begin_out : is_survey (call_named b) ≡ false → ¬ (Surveys (place_at R (suc k) b.worker))
     begin_out e q2 =
         let l = (begin_taken (R.state k) b c a).within in
-        let within : b.worker < R.sizes.workers = subst (λ (z : Sizes). b.worker < z.workers) (sizes_at sound keep stamp R k) l in
-        let o = opened_at sound keep stamp step know once R (suc k) b.worker k within (begin_opens R k b q (ap (reply_of (R.state k)) (sym q) ∙ f)) in
+        let within : b.worker < R.sizes.workers = subst (λ (z : Sizes). b.worker < z.workers) (sizes_at R k) l in
+        let o = opened_at R (suc k) b.worker k within (begin_opens R k b q (ap (reply_of (R.state k)) (sym q) ∙ f)) in
         let (v, is) = survey_call (place_at R (suc k) b.worker) o.call o.place q2 in
-        is_survey_of (call_named b) e v (sym is_named ∙ (same_begin sound keep stamp step know once R begun_by o.begun).1 ∙ is)
+        is_survey_of (call_named b) e v (sym is_named ∙ (same_begin R begun_by o.begun).1 ∙ is)
 
     begin_cells : (w : ℕ) (d : Cell) → Named R.sizes d → OnPage w d → cell_at R.sizes (R.state (suc k)).cells d ≡ cell_at R.sizes (R.state k).cells d
     begin_cells w d m o = ap (λ (s : State). cell_at R.sizes s.cells d) s
@@ -252,12 +237,12 @@ module _ (sound : RunsSound) (keep : RunsKeepLaws) (stamp : RunsStamp) (step : R
         })
       ])
       | inr i ↦ keeps_on k w page (earlier (rw (ne_eqb b.worker w i) at e))
-          (ap (λ s. (worker_at s w).place) s ∙ ap (λ (v : Worker). v.place) (begun_others (R.state k) (sound_at sound keep stamp R k) b.worker (begin_taken (R.state k) b c a).within c w (λ j. i (sym j))))
+          (ap (λ s. (worker_at s w).place) s ∙ ap (λ (v : Worker). v.place) (begun_others (R.state k) (sound_at R k) b.worker (begin_taken (R.state k) b c a).within c w (λ j. i (sym j))))
           (begin_cells w)
     ]
 
   -- an accepted turn
-  turn_kept : (k u w : ℕ) (page : List ℕ) (before : Option (List ℕ)) (t : Taken sound keep stamp step know R k u) → (before ≡ Some page → PageKept k w page) →
+  turn_kept : (k u w : ℕ) (page : List ℕ) (before : Option (List ℕ)) (t : Taken R k u) → (before ≡ Some page → PageKept k w page) →
       (x : Option Answer) → answer_at (R.state k) u ≡ x → page_after (sight_in R k (request.Turn u) (answered_or (Ok x))) w before ≡ Some page → PageKept (suc k) w page
   turn_kept k u w page before t earlier None a e = elim (cases_eq w u) [
     | inl i ↦ (let p = subst (λ w. PageKept k w page) i (earlier e) in subst (λ w. PageKept (suc k) w page) (sym i) (own_turn k u page t p (own_out k u t a p.out)))
@@ -274,7 +259,7 @@ module _ (sound : RunsSound) (keep : RunsKeepLaws) (stamp : RunsStamp) (step : R
   ]
 
   page_next : (k w : ℕ) (page : List ℕ) → (finished_page (shown_at R k).sights w ≡ Some page → PageKept k w page) → page_after (sight_at R k) w (finished_page (shown_at R k).sights w) ≡ Some page → PageKept (suc k) w page
-  page_next k w page earlier e = go (case_at sound keep stamp R k)
+  page_next k w page earlier e = go (case_at R k)
     where
       before : Option (List ℕ)
       before = finished_page (shown_at R k).sights w
@@ -283,12 +268,10 @@ module _ (sound : RunsSound) (keep : RunsKeepLaws) (stamp : RunsStamp) (step : R
       told q r i f = subst (λ s. page_after s w (finished_page (shown_at R k).sights w) ≡ Some page) (sight_is R k ∙ ap₂ (λ q r. sight_in R k q r) i f) e
 
       go : StepCase (R.state k) (R.request k) (R.state (suc k)) → PageKept (suc k) w page
-      go (keeps x f s) = (
-          let rest = subst (λ s. page_after s w (finished_page (shown_at R k).sights w) ≡ Some page) (refused_rests R.sizes (R.state k).cells (R.state (suc k)).cells (R.request k) x) (told (R.request k) (reply.Refused x) refl f) in
-          keeps_on k w page (earlier rest) (ap (λ s. (worker_at s w).place) s) (λ c m o. ap (λ (s : State). cell_at R.sizes s.cells c) s))
+      go (rest f s) = keeps_on k w page (earlier (subst (λ s. page_after s w (finished_page (shown_at R k).sights w) ≡ Some page) (rest_seen R k f) e)) (s.workers w).place (λ c m o. ap (λ (l : List ℕ). cell_at R.sizes l c) s.rows.cells)
       go (begins b c q a f s) = begin_kept k b c q a f s w page (finished_page (shown_at R k).sights w) earlier (told (request.Begin b) reply.Done q f)
       go (turns u q n f s) = (
-          let t : Taken sound keep stamp step know R k u = record { asked = q; within = within sound keep stamp R k u q n s; accepted = n; reply = f; next = s } in
+          let t : Taken R k u = record { asked = q; within = within R k u q n s; accepted = n; reply = f; next = s } in
           turn_kept k u w page (finished_page (shown_at R k).sights w) t earlier (answer_at (R.state k) u) refl (told (request.Turn u) (answered_or (Ok (answer_at (R.state k) u))) q f))
 
   pub page_kept : (k w : ℕ) (page : List ℕ) → finished_page (shown_at R k).sights w ≡ Some page → PageKept k w page
@@ -296,5 +279,5 @@ module _ (sound : RunsSound) (keep : RunsKeepLaws) (stamp : RunsStamp) (step : R
   page_kept zero w page e = absurd (let f : None ≡ Some page = e in cc)
   page_kept (suc k) w page e = page_next k w page (page_kept k w page) e
 
-pub pages_stay : RunsSound → RunsKeepLaws → RunsStamp → RunsStep → RunsKnow → RunsSeen → RunsChangeOnce → RunsKeepPages
-pages_stay sound keep stamp step know seen once R now w page e = (page_kept sound keep stamp step know seen once R now w page e).same
+pub pages_stay : RunsKeepPages
+pages_stay R now w page e = (page_kept R now w page e).same

@@ -2,7 +2,7 @@
 use Rattle.std.proofs.Common.{◌≡◌, ℕ, List, [], ◌∷◌, length, Some, None, Option, refl, sym, ◌∙◌, ap, subst, inl, inr, arith}
 use Rattle.std.proofs.lemmas.Bool.{cases_eq, eq-eqb, ne_eqb}
 use Rattle.layout.specs.declared.sizes.Sizes.{Sizes}
-use Rattle.stepper.specs.Opening.{opened_state}
+use Rattle.machine.specs.Opening.{opened_state}
 use Rattle.order.specs.Graph.{empty}
 use Rattle.order.specs.Order.{Ordered}
 use Rattle.promise.specs.Sights.{Sight, Sight.rests}

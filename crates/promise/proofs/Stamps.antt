@@ -15,17 +15,20 @@ use Rattle.places.specs.declared.place.Change.{Change}
 use Rattle.places.specs.declared.place.Change.TheVariants as change
 use Rattle.places.specs.Marks.{pending, mark_of, is_below}
 use Rattle.places.specs.Touches.{change_head, change_kind}
-use Rattle.stepper.specs.Turns.{cell_at}
-use Rattle.runs.specs.Runs.{Run}
+use Rattle.machine.specs.Turns.{cell_at}
+use Rattle.runs.specs.Runs.{RunInTime}
 use Rattle.runs.specs.Views.{number_at, clock_at, mark_at}
-use Rattle.runs.specs.Times.{Past, RunsLast}
+use Rattle.runs.specs.Times.{Before}
 use Rattle.runs.specs.Known.{ChangeEvent}
 use Rattle.promise.specs.Sights.{Deed, Deed.links, Deed.ends, Deed.raises}
 use Rattle.promise.specs.Calls.{deed_by, unless_pending, deed_stamp, deed_raise, stamp_as, raise_as, edge_row, lower_if, lower_as}
 use Rattle.promise.specs.Bridges.{shown_at, stamp_at, raise_at, lower_at}
-use Rattle.promise.specs.Deeds.{RaiseEvent, DeedEvent, StampedBy, RunsStampsTold, RunsDeeds}
-use Rattle.promise.proofs.Bridges.{sizes_stay}
+use Rattle.keys.specs.Standing.{StampedBy}
+use Rattle.promise.specs.Deeds.{RaiseEvent, DeedEvent, RunsStampsTold}
+use Rattle.runs.proofs.Steps.{sizes_at}
 use Rattle.promise.proofs.Deeds.{is_pending}
+use Rattle.runs.proofs.Times.{runs_last as last}
+use Rattle.promise.proofs.DeedRuns.{runs_deeds as deeds}
 
 unless_stamp : (x n : ℕ) → mark_of x ≡ Stamp n → unless_pending x ≡ Some n
 unless_stamp x n e = elim (cases_eq x 0) [
@@ -48,12 +51,12 @@ stamp_unless x n h e = elim (cases_eq x pending) [
   ]
 ]
 
-module _ (last : RunsLast) (deeds : RunsDeeds) (R : Run) (now b : ℕ) where
+module _ (R : RunInTime) (now b : ℕ) where
   abbrev cells : List ℕ
   cells = (R.state now).cells
 
   number_is : (c : Cell) → number_at R now c ≡ cell_at R.sizes cells c
-  number_is c = ap (λ z. cell_at z cells c) (sizes_stay R now)
+  number_is c = ap (λ z. cell_at z cells c) (sizes_at R now)
 
   mark_told : (k : Kind) (f : Field) (r : ℕ) (m : Mark) → mark_at R now k f r ≡ m → mark_of (cell_at R.sizes cells (cell.Stamp k f r)) ≡ m
   mark_told k f r m e = ap mark_of (sym (number_is (cell.Stamp k f r))) ∙ e
@@ -78,7 +81,7 @@ module _ (last : RunsLast) (deeds : RunsDeeds) (R : Run) (now b : ℕ) where
       ((last R).times (suc p) now (omega arith)).begun (change_kind d) Del r (((last R).times p (suc p) (omega arith)).linked (change_kind d) r ev.linked)
       (λ q. absurd (let e : Pending ≡ NotEnded = sym ev.after ∙ q in cc))
 
-  stamped_by : (f : Field) (d : Change) (r n : ℕ) → Past now (λ p. ChangeEvent R f p b d r) → unless_pending (cell_at R.sizes cells (cell.Stamp (change_kind d) f r)) ≡ Some n → StampedBy R now b n
+  stamped_by : (f : Field) (d : Change) (r n : ℕ) → Before now (λ p. ChangeEvent R f p b d r) → unless_pending (cell_at R.sizes cells (cell.Stamp (change_kind d) f r)) ≡ Some n → StampedBy R now b n
   stamped_by f d r n h e = record {
     field = f;
     change = d;
@@ -91,7 +94,7 @@ module _ (last : RunsLast) (deeds : RunsDeeds) (R : Run) (now b : ℕ) where
   stamped : (n : ℕ) → stamp_at R now b ≡ Some n → StampedBy R now b n
   stamped n e = go (deed_by (shown_at R now).sights b) refl e
     where
-      at : (x : Deed) → Past now (λ p. DeedEvent R p b x) → deed_stamp R.sizes cells x ≡ Some n → StampedBy R now b n
+      at : (x : Deed) → Before now (λ p. DeedEvent R p b x) → deed_stamp R.sizes cells x ≡ Some n → StampedBy R now b n
       at (links h r) z e = (let (d, c, ev) = z.held in stamped_by Ins d r n (record { time = z.time; before = z.before; held = ev }) (subst (λ h. deed_stamp R.sizes cells (links h r) ≡ Some n) (sym c) e))
       at (ends k r) z e = (let (d, c, ev) = z.held in stamped_by Del d r n (record { time = z.time; before = z.before; held = ev }) (subst (λ k. deed_stamp R.sizes cells (ends k r) ≡ Some n) (sym c) e))
       at (raises t) z e = absurd (let f : None ≡ Some n = e in cc)
@@ -100,15 +103,15 @@ module _ (last : RunsLast) (deeds : RunsDeeds) (R : Run) (now b : ℕ) where
       go None q e = absurd (let f : None ≡ Some n = e in cc)
       go (Some x) q e = at x ((deeds R now b).done x q) e
 
-  raised : (t : ℕ) → raise_at R now b ≡ Some t → Past now (λ p. RaiseEvent R p b × (clock_at R p ≡ t))
+  raised : (t : ℕ) → raise_at R now b ≡ Some t → Before now (λ p. RaiseEvent R p b × (clock_at R p ≡ t))
   raised t e = go (deed_by (shown_at R now).sights b) refl e
     where
-      at : (x : Deed) → Past now (λ p. DeedEvent R p b x) → deed_raise x ≡ Some t → Past now (λ p. RaiseEvent R p b × (clock_at R p ≡ t))
+      at : (x : Deed) → Before now (λ p. DeedEvent R p b x) → deed_raise x ≡ Some t → Before now (λ p. RaiseEvent R p b × (clock_at R p ≡ t))
       at (links h r) z e = absurd (let f : None ≡ Some t = e in cc)
       at (ends k r) z e = absurd (let f : None ≡ Some t = e in cc)
       at (raises u) z e = (let f : Some u ≡ Some t = e in let g : u ≡ t = cc in record { time = z.time; before = z.before; held = (z.held.0, z.held.1 ∙ g) })
 
-      go : (o : Option Deed) → deed_by (shown_at R now).sights b ≡ o → raise_as o ≡ Some t → Past now (λ p. RaiseEvent R p b × (clock_at R p ≡ t))
+      go : (o : Option Deed) → deed_by (shown_at R now).sights b ≡ o → raise_as o ≡ Some t → Before now (λ p. RaiseEvent R p b × (clock_at R p ≡ t))
       go None q e = absurd (let f : None ≡ Some t = e in cc)
       go (Some x) q e = at x ((deeds R now b).done x q) e
 
@@ -161,14 +164,14 @@ module _ (last : RunsLast) (deeds : RunsDeeds) (R : Run) (now b : ℕ) where
       go None q = refl
       go (Some x) q = ap (lower_if R.sizes cells (edge_row x)) q ∙ without_stamp (edge_row x)
 
-pub stamps_told : RunsLast → RunsDeeds → RunsStampsTold
-stamps_told last deeds R now b = record {
-  stamped = stamped last deeds R now b;
-  bears = bears last deeds R now b;
-  waits = waits last deeds R now b;
-  raised = raised last deeds R now b;
-  raises_from = raises_from last deeds R now b;
-  lower = lower last deeds R now b;
-  no_lower = no_lower last deeds R now b;
-  unstamped = unstamped last deeds R now b;
+pub stamps_told : RunsStampsTold
+stamps_told R now b = record {
+  stamped = stamped R now b;
+  bears = bears R now b;
+  waits = waits R now b;
+  raised = raised R now b;
+  raises_from = raises_from R now b;
+  lower = lower R now b;
+  no_lower = no_lower R now b;
+  unstamped = unstamped R now b;
 }

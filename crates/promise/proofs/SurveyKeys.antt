@@ -9,26 +9,28 @@ use Rattle.order.specs.Past.{Finish, Belongs}
 use Rattle.order.specs.Keys.{Key}
 use Rattle.order.specs.Finds.{RowChange, no_change}
 use Rattle.order.specs.Marked.{CallMarked}
-use Rattle.order.specs.Seen.{Sight, Sight.begins, Sight.finishes, Sight.neither, call_begun, past_of}
-use Rattle.runs.specs.Runs.{Run}
+use Rattle.order.specs.Seen.{CallSight, CallSight.begins, CallSight.finishes, CallSight.neither, call_begun, past_of}
+use Rattle.runs.specs.Runs.{RunInTime}
 use Rattle.runs.specs.Views.{clock_at}
 use Rattle.runs.specs.Seen.{seen, open_at}
-use Rattle.runs.specs.Reasons.{RunsKnow}
 use Rattle.runs.specs.Marking.{time_bound, RunMarks}
 use Rattle.bounds.specs.Bounds.{links_row}
-use Rattle.bounds.specs.Counted.{RunsCount}
-use Rattle.bounds.specs.Surveys.{SurveysStayBounded}
-use Rattle.surveys.specs.Raises.{is_turn_in, raising, raising_turn, raise_by, RunsRaise, SurveysChangeNone}
-use Rattle.surveys.specs.Marked.{run_past, key_from, SurveysMarked}
+use Rattle.surveys.specs.Raises.{is_request_of_call, raising, raising_turn, raise_before}
+use Rattle.surveys.specs.Marked.{run_past, key_from}
 use Rattle.surveys.proofs.Raised.{Raised, raised, raising_true}
 use Rattle.promise.specs.Bridges.{stamp_at, raise_at, lower_at, past_at, SurveysBounded, OrdersSuffice, RunsSuffice}
 use Rattle.promise.specs.Counts.{SurveysFollow}
-use Rattle.promise.specs.Deeds.{RaiseEvent, RunsStampsTold}
+use Rattle.promise.specs.Deeds.{RaiseEvent}
 use Rattle.promise.specs.Keyed.{marking, KeysSuffice}
 use Rattle.promise.specs.Points.{RaisesAgree, SurveyKeyed, RunsKeySurveys, PointsSuffice, PromiseFollows}
+use Rattle.promise.proofs.Stamps.{stamps_told as told}
+use Rattle.surveys.proofs.Only.{surveys_change_none as none}
+use Rattle.surveys.proofs.Marked.{surveys_marked as marked}
+use Rattle.bounds.proofs.Counted.{runs_count as count}
+use Rattle.bounds.proofs.SurveyTurns.{surveys_stay_bounded as bounded}
 
-pub surveys_bounded : RunsCount → SurveysStayBounded → SurveysFollow → SurveysBounded
-surveys_bounded count bounded follow = follow links_row (λ R. (count R).rows) (λ R. (count R).each_row) bounded
+pub surveys_bounded : SurveysFollow → SurveysBounded
+surveys_bounded follow = follow links_row (λ R. (count R).rows) (λ R. (count R).each_row) bounded
 
 no_number : {X : Type 0} {t : X} → ◌≡◌ {A = Option X} None (Some t) → ⊥
 no_number e = absurd cc
@@ -42,7 +44,7 @@ some_or_none None = inr refl
 some_or_none (Some x) = inl (x, refl)
 
 -- the turn that raised is before now, and where none is found none raised
-raising_before : (R : Run) (b k r : ℕ) → raising_turn R b k ≡ Some r → r < k
+raising_before : (R : RunInTime) (b k r : ℕ) → raising_turn R b k ≡ Some r → r < k
 unfolding raising_turn
 raising_before R b zero r e = absurd cc
 raising_before R b (suc k) r e = by_test (raising_before R b k r) (raising R b k) e
@@ -51,7 +53,7 @@ raising_before R b (suc k) r e = by_test (raising_before R b k r) (raising R b k
     by_test before true z = (let same : k ≡ r = cc in omega (arith, same))
     by_test before false z = omega (arith, before z)
 
-none_raised : (R : Run) (b k p : ℕ) → raising_turn R b k ≡ None → p < k → raising R b p ≡ true → ⊥
+none_raised : (R : RunInTime) (b k p : ℕ) → raising_turn R b k ≡ None → p < k → raising R b p ≡ true → ⊥
 unfolding raising_turn
 none_raised R b zero p e l y = absurd (omega (arith, l))
 none_raised R b (suc k) p e l y = by_test (λ z s. none_raised R b k p z s y) (raising R b k) refl e
@@ -63,34 +65,34 @@ none_raised R b (suc k) p e l y = by_test (λ z s. none_raised R b k p z s y) (r
       | inr n ↦ before z (omega (arith, l, n))
     ]
 
-module _ (told : RunsStampsTold) (raise : RunsRaise) (know : RunsKnow) (R : Run) (now : ℕ) where
+module _ (R : RunInTime) (now : ℕ) where
   event_of : (b r : ℕ) → Raised R b r → RaiseEvent R r b
   event_of b r x = record { worker = x.step.worker; survey = x.step.survey; turn = x.step.turn; whose = x.whose; moved = omega (arith, x.step.next) }
 
   raising_of : (b p : ℕ) → RaiseEvent R p b → raising R b p ≡ true
   raising_of b p x =
-      let a : is_turn_in (open_at R p) b (R.request p) ≡ true = ap (is_turn_in (open_at R p) b) x.turn.asked ∙ rw (x.whose) (eq-eqb b b refl) in
+      let a : is_request_of_call (open_at R p) b (R.request p) ≡ true = ap (is_request_of_call (open_at R p) b) x.turn.asked ∙ rw (x.whose) (eq-eqb b b refl) in
       let m : eqb (clock_at R (suc p)) (clock_at R p) ≡ false = ne_eqb _ _ (λ e. omega (arith, x.moved, e)) in
       rw (a, m) refl
 
-  pub same_raise : (b : ℕ) → raise_at R now b ≡ raise_by R now b
+  pub same_raise : (b : ℕ) → raise_at R now b ≡ raise_before R now b
   same_raise b = by_turn (raising_turn R b now) refl
     where
       by_seen : raising_turn R b now ≡ None → (o : Option ℕ) → raise_at R now b ≡ o → raise_at R now b ≡ None
       by_seen z None e = e
       by_seen z (Some t) e = absurd (let h = (told R now b).raised t e in none_raised R b now h.time z h.before (raising_of b h.time h.held.0))
 
-      by_turn : (o : Option ℕ) → raising_turn R b now ≡ o → raise_at R now b ≡ raise_by R now b
+      by_turn : (o : Option ℕ) → raising_turn R b now ≡ o → raise_at R now b ≡ raise_before R now b
       by_turn None z = by_seen z (raise_at R now b) refl ∙ sym (ap (option_map (clock_at R)) z)
       by_turn (Some r) z =
-          (told R now b).raises_from r (raising_before R b now r z) (event_of b r (raised raise know R b r (raising_true R b now r z)))
+          (told R now b).raises_from r (raising_before R b now r z) (event_of b r (raised R b r (raising_true R b now r z)))
           ∙ sym (ap (option_map (clock_at R)) z)
 
   pub same_past : past_at R now ≡ run_past R now (stamp_at R now) (lower_at R now)
   same_past = λ i. past_of (seen R) now (stamp_at R now) (λ b. same_raise b i) (lower_at R now)
 
   -- a call that began was seen to begin
-  pub seen_as : (s : Sight) (t : Bool) (c : Call) → cond t (call_begun s) None ≡ Some c → (w : ℕ) × (s ≡ begins w c)
+  pub seen_as : (s : CallSight) (t : Bool) (c : Call) → cond t (call_begun s) None ≡ Some c → (w : ℕ) × (s ≡ begins w c)
   seen_as (begins w d) true c e = (w, (let same : d ≡ c = cc in ap (begins w) same))
   seen_as (begins w d) false c e = absurd cc
   seen_as (finishes w a p) true c e = absurd cc
@@ -102,7 +104,7 @@ module _ (told : RunsStampsTold) (raise : RunsRaise) (know : RunsKnow) (R : Run)
   part_of None f = inl refl
   part_of (Some r) f = inr refl
 
-  module _ (none : SurveysChangeNone) (marked : SurveysMarked) (m : RunMarks R now) (b : ℕ) (v : Survey) (w : ℕ) (s : seen R b ≡ begins w (call.Survey v)) where
+  module _ (m : RunMarks R now) (b : ℕ) (v : Survey) (w : ℕ) (s : seen R b ≡ begins w (call.Survey v)) where
     -- an unfinished snapshot or reach has made no change, so it does not belong
     finished : Belongs (past_at R now) b → (f : Finish) × ((past_at R now).finish b ≡ Some f)
     finished x = by_finish (some_or_none ((past_at R now).finish b))
@@ -127,14 +129,14 @@ module _ (told : RunsStampsTold) (raise : RunsRaise) (know : RunsKnow) (R : Run)
           owed = λ keys change n. subst (λ h. CallMarked h (marking R now m.marks keys change) b (key_from R now (raising_turn R b now) f.time)) (sym same_past) (z keys change n).owed;
         }
 
-pub raises_agree : RunsStampsTold → RunsRaise → RunsKnow → RaisesAgree
-raises_agree told raise know R now b = same_raise told raise know R now b
+pub raises_agree : RaisesAgree
+raises_agree R now b = same_raise R now b
 
-pub runs_key_surveys : RunsStampsTold → RunsRaise → RunsKnow → SurveysChangeNone → SurveysMarked → RunsKeySurveys
-runs_key_surveys told raise know none marked R now m b v e x =
-    let s = seen_as told raise know R now (seen R b) (nat_lt b now) (call.Survey v) e in
-    let f = finished told raise know R now none marked m b v s.0 s.1 x in
-    keyed told raise know R now none marked m b v s.0 s.1 f.0 f.1
+pub runs_key_surveys : RunsKeySurveys
+runs_key_surveys R now m b v e x =
+    let s = seen_as R now (seen R b) (nat_lt b now) (call.Survey v) e in
+    let f = finished R now m b v s.0 s.1 x in
+    keyed R now m b v s.0 s.1 f.0 f.1
 
 pub points_suffice : RunsKeySurveys → PointsSuffice
 points_suffice keyed points R now m = points R now m (keyed R now m)

@@ -10,7 +10,7 @@ use Rattle.layout.specs.Rows.{no_row}
 use Rattle.places.specs.declared.mark.Mark.{Mark}
 use Rattle.places.specs.declared.place.Survey.{Survey}
 use Rattle.places.specs.declared.place.Survey.TheVariants.{Snapshot, Reach}
-use Rattle.places.specs.declared.place.Leg.{Leg}
+use Rattle.places.specs.declared.place.ServedPair.{ServedPair}
 use Rattle.places.specs.declared.place.Job.{Job}
 use Rattle.places.specs.declared.place.Job.TheVariants as job
 use Rattle.places.specs.declared.place.Walk.{Walk}
@@ -21,17 +21,17 @@ use Rattle.places.specs.declared.place.Purpose.TheVariants as purpose
 use Rattle.places.specs.declared.place.Place.{Place}
 use Rattle.places.specs.declared.place.Place.TheVariants as place
 use Rattle.places.specs.Marks.{pending, mark_of}
-use Rattle.places.specs.Outs.{Out}
+use Rattle.places.specs.Flows.{Flow}
 use Rattle.places.specs.Moved.{Next, Next as next}
 use Rattle.places.specs.Rules.{first}
 use Rattle.places.specs.Walks.{first_job, above, walked_ins}
 use Rattle.places.specs.Nexts.{number_of, settle_on, settled, raise_done, next_of}
 use Rattle.books.specs.declared.book.Book.{Book}
 use Rattle.books.specs.Books.{shown_of, row_of, is_seen, with_row, joined}
-use Rattle.books.specs.Serving.{leg_at, leg_number, open_at as pair_open, first_open, open_from, survey_done, go_on, serve_from}
-use Rattle.books.specs.Walked.{Outcome, walk_of, walked_joined, joins, resolved, walked_at, walked_of}
-use Rattle.stepper.specs.declared.worker.Worker.{Worker}
-use Rattle.stepper.specs.Workers.{with_book, arrived, out_answer, followed}
+use Rattle.books.specs.Serving.{pair_numbered, pair_number, open_at as pair_open, first_open, open_from, survey_done, go_on, serve_from}
+use Rattle.books.specs.Walked.{WalkOutcome, walk_of, walked_joined, joins, resolved, walked_at, walked_of}
+use Rattle.machine.specs.declared.worker.Worker.{Worker}
+use Rattle.machine.specs.Workers.{with_book, arrived, flow_answer, followed}
 use Rattle.promise.specs.Answers.{Surveyed}
 
 -- only a reach walks its start
@@ -48,19 +48,19 @@ Proper p = Unit {0}
 
 -- a walk goes on, or has come to its end
 abbrev pub WalkNext : Walk → Next → Type 0
-WalkNext k (next.Out (Continue q)) = Proper q
+WalkNext k (next.Moved (Continue q)) = Proper q
 WalkNext k (next.Walked j r) = j ≡ k
 WalkNext k n = ⊥
 
 module _ (k : Walk) (proper : JobFor k.survey k.job) where
   on_ins : (r : ℕ) (h : Hand) (m : Mark) → WalkNext k (walked_ins k r h m)
   on_ins r h m =
-      cond_both (above h.t m) (cond (h.older == no_row) (next.Walked k no_row) (next.Out (Continue (place.WalkOlder k h.older)))) (next.Out (first (purpose.Walk Del k r))) (WalkNext k)
-      (λ e. cond_both (h.older == no_row) (next.Walked k no_row) (next.Out (Continue (place.WalkOlder k h.older))) (WalkNext k) (λ e. refl) (λ e. proper))
+      cond_both (above h.t m) (cond (h.older == no_row) (next.Walked k no_row) (next.Moved (Continue (place.WalkOlder k h.older)))) (next.Moved (first (purpose.Walk Del k r))) (WalkNext k)
+      (λ e. cond_both (h.older == no_row) (next.Walked k no_row) (next.Moved (Continue (place.WalkOlder k h.older))) (WalkNext k) (λ e. refl) (λ e. proper))
       (λ e. proper)
 
   pub on_head : (h : Hand) (g : Option ℕ) → WalkNext k (next_of (place.WalkHead k) h g)
-  on_head h g = cond_both (number_of g == no_row) (next.Walked k no_row) (next.Out (first (purpose.Walk Ins k (number_of g)))) (WalkNext k) (λ e. refl) (λ e. proper)
+  on_head h g = cond_both (number_of g == no_row) (next.Walked k no_row) (next.Moved (first (purpose.Walk Ins k (number_of g)))) (WalkNext k) (λ e. refl) (λ e. proper)
 
   pub on_older : (r : ℕ) (h : Hand) (g : Option ℕ) → WalkNext k (next_of (place.WalkOlder k r) h g)
   on_older r h g = on_ins r h (mark_of (number_of g))
@@ -75,12 +75,12 @@ module _ (k : Walk) (proper : JobFor k.survey k.job) where
       (λ e. proper) (λ e. on_settled f r h (mark_of (number_of g)))
   on_settle stage.Clock f r h g = proper
   on_settle (stage.Swap n) f r h g = proper
-  on_settle stage.Again f r h g = on_settled f r h (mark_of (number_of g))
+  on_settle stage.Reread f r h g = on_settled f r h (mark_of (number_of g))
 
 -- where a snapshot or reach goes on to, or what it answers
-abbrev OutFor : Survey → Out → Type 0
-OutFor v (Continue q) = Proper q
-OutFor v (Break a) = Surveyed v a
+abbrev FlowFor : Survey → Flow → Type 0
+FlowFor v (Continue q) = Proper q
+FlowFor v (Break a) = Surveyed v a
 
 abbrev SomeFor : Survey → Option Job → Type 0
 SomeFor v None = Unit {0}
@@ -90,11 +90,11 @@ key_for : (v : Survey) (i : ℕ) → JobFor v (job.Key i)
 key_for Snapshot i = tt
 key_for (Reach s) i = tt
 
-pair_for : (v : Survey) (l : Leg) → JobFor v (job.Pair l)
+pair_for : (v : Survey) (l : ServedPair) → JobFor v (job.Pair l)
 pair_for Snapshot l = tt
 pair_for (Reach s) l = tt
 
-target_for : (v : Survey) (l : Leg) (e : ℕ) → JobFor v (job.Target l e)
+target_for : (v : Survey) (l : ServedPair) (e : ℕ) → JobFor v (job.Target l e)
 target_for Snapshot l e = tt
 target_for (Reach s) l e = tt
 
@@ -112,27 +112,27 @@ absent_for (Reach s) i a = inr refl
 
 open_for : (b : Book) (v : Survey) (n d x : ℕ) → SomeFor v (first_open b v n d x)
 open_for b v n zero x = tt
-open_for b v n (suc d) x = cond_both (pair_open b v n x) (Some (job.Pair (leg_at b n x))) (first_open b v n d (x + 1)) (SomeFor v) (λ e. pair_for v (leg_at b n x)) (λ e. open_for b v n d (x + 1))
+open_for b v n (suc d) x = cond_both (pair_open b v n x) (Some (job.Pair (pair_numbered b n x))) (first_open b v n d (x + 1)) (SomeFor v) (λ e. pair_for v (pair_numbered b n x)) (λ e. open_for b v n d (x + 1))
 
-go_on_for : (v : Survey) (o : Option Job) → SomeFor v o → OutFor v (go_on v o)
+go_on_for : (v : Survey) (o : Option Job) → SomeFor v o → FlowFor v (go_on v o)
 go_on_for v None a = done_for v
 go_on_for v (Some j) a = a
 
-serve_for : (b : Book) (v : Survey) (n x : ℕ) → OutFor v (serve_from b v n x)
+serve_for : (b : Book) (v : Survey) (n x : ℕ) → FlowFor v (serve_from b v n x)
 serve_for b v n x = go_on_for v (open_from b v n x) (open_for b v n (n * b.len - x) x)
 
-abbrev OutcomeFor : Survey → Outcome → Type 0
-OutcomeFor v o = OutFor v o.out
+abbrev OutcomeFor : Survey → WalkOutcome → Type 0
+OutcomeFor v o = FlowFor v o.out
 
-resolved_for : (b : Book) (v : Survey) (n : ℕ) (l : Leg) (h : Hand) → OutcomeFor v (resolved b v n l h)
+resolved_for : (b : Book) (v : Survey) (n : ℕ) (l : ServedPair) (h : Hand) → OutcomeFor v (resolved b v n l h)
 resolved_for b v n l h = cond_both (h.target == row_of b l.to) _ _ (OutcomeFor v)
-    (λ e. cond_both (joins v (shown_of b l.to)) _ _ (OutcomeFor v) (λ e. serve_for (joined b l.to) v n (leg_number n l + 1)) (λ e. serve_for b v n (leg_number n l + 1)))
-    (λ e. serve_for b v n (leg_number n l + 1))
+    (λ e. cond_both (joins v (shown_of b l.to)) _ _ (OutcomeFor v) (λ e. serve_for (joined b l.to) v n (pair_number n l + 1)) (λ e. serve_for b v n (pair_number n l + 1)))
+    (λ e. serve_for b v n (pair_number n l + 1))
 
 walked_for : (b : Book) (v : Survey) (j : Job) (n r : ℕ) (h : Hand) → JobFor v j → OutcomeFor v (walked_at b v j n r h)
-walked_for b v (job.Key k) n r h a = cond_both (nat_lt (k + 1) n) (walk_of v (job.Key (k + 1))) (serve_from (walked_joined b k r) v n 0) (OutFor v) (λ e. key_for v (k + 1)) (λ e. serve_for (walked_joined b k r) v n 0)
+walked_for b v (job.Key k) n r h a = cond_both (nat_lt (k + 1) n) (walk_of v (job.Key (k + 1))) (serve_from (walked_joined b k r) v n 0) (FlowFor v) (λ e. key_for v (k + 1)) (λ e. serve_for (walked_joined b k r) v n 0)
 walked_for b v (job.Start k) n r h a = cond_both (r == no_row) _ _ (OutcomeFor v) (λ e. absent_for v k a) (λ e. serve_for (walked_joined b k r) v n 0)
-walked_for b v (job.Pair l) n r h a = cond_both (r == no_row || not (h.source == shown_of b l.from)) _ _ (OutcomeFor v) (λ e. serve_for b v n (leg_number n l + 1))
+walked_for b v (job.Pair l) n r h a = cond_both (r == no_row || not (h.source == shown_of b l.from)) _ _ (OutcomeFor v) (λ e. serve_for b v n (pair_number n l + 1))
     (λ e. cond_both (is_seen b l.to) _ _ (OutcomeFor v) (λ e. resolved_for b v n l h) (λ e. target_for v l r))
 walked_for b v (job.Target l e) n r h a = resolved_for (with_row b l.to r) v n l h
 
@@ -141,13 +141,13 @@ abbrev pub AfterFor : Survey → Option Answer → Place → Type 0
 AfterFor v None q = Proper q
 AfterFor v (Some a) q = Surveyed v a
 
-arrived_for : (v : Survey) (w : Worker) (o : Out) → OutFor v o → AfterFor v (out_answer o) (arrived w o).place
+arrived_for : (v : Survey) (w : Worker) (o : Flow) → FlowFor v o → AfterFor v (flow_answer o) (arrived w o).place
 arrived_for v w (Continue q) a = a
 arrived_for v w (Break x) a = a
 
 pub walk_after : (n : ℕ) (w : Worker) (h : Hand) (k : Walk) → JobFor k.survey k.job → (x : Next) → WalkNext k x → AfterFor k.survey (followed n w h x).answer (followed n w h x).worker.place
-walk_after n w h k a (next.Out (Continue q)) s = s
-walk_after n w h k a (next.Out (Break x)) s = absurd s
+walk_after n w h k a (next.Moved (Continue q)) s = s
+walk_after n w h k a (next.Moved (Break x)) s = absurd s
 walk_after n w h k a (next.Linked c r) s = absurd s
 walk_after n w h k a (next.Raised v t) s = absurd s
 walk_after n w h k a (next.Walked j r) s =

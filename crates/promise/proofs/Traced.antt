@@ -1,8 +1,8 @@
 -- A history whose replies are those of the rules leads to the state that it shows.
 use Rattle.std.proofs.Common.{◌≡◌, List, [], ◌∷◌, refl, sym, ap}
-use Rattle.stepper.specs.States.{State}
-use Rattle.stepper.specs.Requests.{reply_of}
-use Rattle.stepper.specs.History.{Event, Traces}
+use Rattle.machine.specs.States.{State}
+use Rattle.machine.specs.Requests.{reply_of}
+use Rattle.machine.specs.History.{Event, Traces}
 use Rattle.promise.specs.Histories.{shown_by}
 
 -- the same requests, with the replies of the rules

@@ -1,5 +1,5 @@
 -- How many turns a call has had, and how many it may have had, from what was seen, newest first.
-use Rattle.std.specs.Prelude.{◌≡◌, ℕ, ◌+◌, ◌*◌, ◌≤◌, Bool, true, false, cond, not, ◌&&◌, List, [], ◌∷◌, length, Some, ◌==◌, nat_lt}
+use Rattle.std.specs.Prelude.{◌≡◌, ℕ, ◌+◌, ◌*◌, ◌≤◌, Bool, true, false, if◌then◌else◌, not, ◌&&◌, List, [], ◌∷◌, length, Some, ◌==◌, nat_lt}
 use Rattle.layout.specs.declared.sizes.Sizes.{Sizes}
 use Rattle.layout.specs.declared.names.Head.{Head}
 use Rattle.layout.specs.declared.names.Head.TheVariants as head
@@ -10,24 +10,24 @@ use Rattle.places.specs.declared.place.Op.TheVariants.{Add, Remove, Contains}
 use Rattle.places.specs.declared.place.Pair.{Pair}
 use Rattle.places.specs.declared.place.Call.{Call}
 use Rattle.places.specs.declared.place.Call.TheVariants as call
-use Rattle.stepper.specs.Turns.{cell_at}
+use Rattle.machine.specs.Turns.{cell_at}
 use Rattle.walks.specs.Budgets.{sum_below}
 use Rattle.promise.specs.Sights.{Deed.links, Sight, Sight.turns}
-use Rattle.promise.specs.Calls.{Begun, call_begun, is_turn_of}
+use Rattle.promise.specs.Calls.{Begun, call_begun, is_sight_of_call}
 
 -- one more where a test says so
 abbrev pub one_if : Bool → ℕ → ℕ
-one_if b n = cond b (n + 1) n
+one_if b n = if b then n + 1 else n
 
 -- the turns that the call b has had
 abbrev pub turns_had : List Sight → ℕ → ℕ
 turns_had [] b = 0
-turns_had (s ∷ ss) b = one_if (is_turn_of s ss b) (turns_had ss b)
+turns_had (s ∷ ss) b = one_if (is_sight_of_call s ss b) (turns_had ss b)
 
 -- what was seen up to the latest turn of the call b
 abbrev pub until_turn : List Sight → ℕ → List Sight
 until_turn [] b = []
-until_turn (s ∷ ss) b = cond (is_turn_of s ss b) (s ∷ ss) (until_turn ss b)
+until_turn (s ∷ ss) b = if is_sight_of_call s ss b then s ∷ ss else until_turn ss b
 
 -- a row was linked
 abbrev pub is_link : Sight → Bool
@@ -55,7 +55,7 @@ other_links w p b (s ∷ ss) = one_if (nat_lt b (length ss) && is_other_link w p
 
 -- a head holds a row in these cells
 abbrev pub one_row : Sizes → List ℕ → Head → ℕ
-one_row z cells h = cond (cell_at z cells (cell.Head h) == no_row) 0 1
+one_row z cells h = if cell_at z cells (cell.Head h) == no_row then 0 else 1
 
 -- how many heads of keys and of pairs do
 unfoldable pub rows_held : Sizes → List ℕ → ℕ

@@ -1,17 +1,17 @@
 -- How the promise of histories stands to runs as functions of time, and to what is seen of them.
 use Rattle.std.specs.Prelude.{◌≡◌, ℕ, suc, ◌+◌, ◌≤◌, Bool, List, Option}
 use Rattle.layout.specs.declared.sizes.Sizes.{Sizes}
-use Rattle.stepper.specs.declared.request.Request.{Request}
-use Rattle.stepper.specs.States.{State}
-use Rattle.stepper.specs.declared.request.Reply.{Reply}
-use Rattle.stepper.specs.History.{Event, Extends, Continues}
+use Rattle.machine.specs.declared.request.Request.{Request}
+use Rattle.machine.specs.States.{State}
+use Rattle.machine.specs.declared.request.Reply.{Reply}
+use Rattle.machine.specs.History.{Event, Extends, Continues}
 use Rattle.places.specs.declared.place.Survey.{Survey}
 use Rattle.places.specs.declared.place.Call.TheVariants as call
 use Rattle.questions.specs.Graph.{Graph}
 use Rattle.order.specs.Past.{Past}
 use Rattle.order.specs.Order.{Ordered}
 use Rattle.order.specs.Seen.{past_of as past_seen}
-use Rattle.runs.specs.Runs.{Run, history_at}
+use Rattle.runs.specs.Runs.{RunInTime, history_at}
 use Rattle.runs.specs.Seen.{seen, open_at}
 use Rattle.runs.specs.Reasons.{BegunBy}
 use Rattle.runs.specs.Starts.{ShowsGraph}
@@ -22,7 +22,7 @@ use Rattle.promise.specs.Left.{graph_in}
 use Rattle.promise.specs.Bounds.{survey_limit, rows_held, rows_linked, KeepsBound}
 use Rattle.promise.specs.Promise.{PagesStay, Promised, PromisedAtOpening, PromiseKept, PromiseContinues, PromiseHolds, OpeningsPromised}
 
-module _ (R : Run) where
+module _ (R : RunInTime) where
   -- what a run shows up to a time
   abbrev pub shown_at : ℕ → Shown
   shown_at k = shown_by (R.state 0) (history_at R k)
@@ -61,27 +61,27 @@ module _ (R : Run) where
     pub past : past_of R.sizes (shown_at now).sights (shown_at now).state.cells ≡ past_at now
 
 abbrev pub RunsShown : Type 0
-RunsShown = (R : Run) (now : ℕ) → RunShown R now
+RunsShown = (R : RunInTime) (now : ℕ) → RunShown R now
 
 -- the part of the promise about pages
 abbrev pub RunsKeepPages : Type 0
-RunsKeepPages = (R : Run) (now : ℕ) → PagesStay R.sizes (shown_at R now).sights (R.state now).cells
+RunsKeepPages = (R : RunInTime) (now : ℕ) → PagesStay R.sizes (shown_at R now).sights (R.state now).cells
 
 -- every run is promised at every time, with the graph that it starts with
 abbrev pub RunsPromised : Type 0
-RunsPromised = (R : Run) (g : Graph) → ShowsGraph (R.state 0) g → (now : ℕ) → Promised (R.state 0) g (history_at R now)
+RunsPromised = (R : RunInTime) (g : Graph) → ShowsGraph (R.state 0) g → (now : ℕ) → Promised (R.state 0) g (history_at R now)
 
 -- one order explains the past of every run from the graph on that it starts with, and leaves the graph that the cells show
 abbrev pub RunsOrdered : Type 0
-RunsOrdered = (R : Run) (g : Graph) → ShowsGraph (R.state 0) g → (now : ℕ) → Ordered (past_at R now) g (graph_at R now)
+RunsOrdered = (R : RunInTime) (g : Graph) → ShowsGraph (R.state 0) g → (now : ℕ) → Ordered (past_at R now) g (graph_at R now)
 
 -- A snapshot or reach takes no more than a turn for the raise, 8 for each walk, and one for each row that a head held at the start or that was linked up to its latest turn;
 abbrev pub SurveysBounded : Type 0
-SurveysBounded = (R : Run) (now w b : ℕ) (v : Survey) → BegunBy R now w b (call.Survey v) → turns_taken R w b now ≤ survey_limit R.sizes (rows_at_start R + rows_until R now w b)
+SurveysBounded = (R : RunInTime) (now w b : ℕ) (v : Survey) → BegunBy R now w b (call.Survey v) → turns_taken R w b now ≤ survey_limit R.sizes (rows_at_start R + rows_until R now w b)
 
 -- so every call keeps its bound
 abbrev pub RunsBounded : Type 0
-RunsBounded = (R : Run) (now : ℕ) → KeepsBound R.sizes (rows_at_start R) (shown_at R now).sights
+RunsBounded = (R : RunInTime) (now : ℕ) → KeepsBound R.sizes (rows_at_start R) (shown_at R now).sights
 
 -- and runs are promised where each has such an order
 abbrev pub OrdersSuffice : Type 0

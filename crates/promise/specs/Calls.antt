@@ -1,5 +1,5 @@
 -- The calls of a run, from what was seen of it, newest first. A sight has the time that is the number of sights before it, and a call goes by the time at which it was seen to begin.
-use Rattle.std.specs.Prelude.{ℕ, Bool, false, cond, ◌||◌, List, [], ◌∷◌, length, Some, None, Option, ◌==◌}
+use Rattle.std.specs.Prelude.{ℕ, Bool, false, if◌then◌else◌, ◌||◌, List, [], ◌∷◌, length, Some, None, Option, ◌==◌}
 use Rattle.std.specs.Option.{option_or, option_map}
 use Rattle.layout.specs.declared.sizes.Sizes.{Sizes}
 use Rattle.layout.specs.declared.names.Kind.TheVariants.{Vertex, Edge}
@@ -10,7 +10,7 @@ use Rattle.layout.specs.declared.names.Cell.TheVariants as cell
 use Rattle.places.specs.Marks.{pending, mark_of, is_below}
 use Rattle.places.specs.Touches.{head_kind}
 use Rattle.places.specs.declared.place.Call.{Call}
-use Rattle.stepper.specs.Turns.{cell_at}
+use Rattle.machine.specs.Turns.{cell_at}
 use Rattle.order.specs.Past.{Finish, Past}
 use Rattle.promise.specs.Sights.{Deed, Deed.links, Deed.ends, Deed.raises, End, Sight, Sight.begins, Sight.turns, page_graph}
 
@@ -26,12 +26,12 @@ begun_in s = None
 -- the call b, if it was seen to begin
 abbrev pub call_begun : List Sight → ℕ → Option Begun
 call_begun [] b = None
-call_begun (s ∷ ss) b = cond (b == length ss) (begun_in s) (call_begun ss b)
+call_begun (s ∷ ss) b = if b == length ss then begun_in s else call_begun ss b
 
 -- a call of worker v begins at a time, or its call may end: what worker w has open after that
 abbrev pub open_after : Sight → ℕ → ℕ → Option ℕ → Option ℕ
-open_after (begins v c) time w before = cond (v == w) (Some time) before
-open_after (turns v d (Some e)) time w before = cond (v == w) None before
+open_after (begins v c) time w before = if v == w then Some time else before
+open_after (turns v d (Some e)) time w before = if v == w then None else before
 open_after s time w before = before
 
 -- the call that worker w has open
@@ -44,9 +44,9 @@ is_call None b = false
 is_call (Some a) b = a == b
 
 -- a sight, behind those before it, is a turn of the call b
-abbrev pub is_turn_of : Sight → List Sight → ℕ → Bool
-is_turn_of (turns w d e) ss b = is_call (open_by ss w) b
-is_turn_of s ss b = false
+abbrev pub is_sight_of_call : Sight → List Sight → ℕ → Bool
+is_sight_of_call (turns w d e) ss b = is_call (open_by ss w) b
+is_sight_of_call s ss b = false
 
 abbrev pub deed_of : Sight → Option Deed
 deed_of (turns w d e) = d
@@ -59,7 +59,7 @@ end_of s = None
 -- the deed that the call b has done at one of its turns
 abbrev pub deed_by : List Sight → ℕ → Option Deed
 deed_by [] b = None
-deed_by (s ∷ ss) b = option_or (cond (is_turn_of s ss b) (deed_of s) None) (deed_by ss b)
+deed_by (s ∷ ss) b = option_or (if is_sight_of_call s ss b then deed_of s else None) (deed_by ss b)
 
 -- at a time a call ended, where pages have n keys
 abbrev pub finish_at : ℕ → ℕ → End → Finish
@@ -68,11 +68,11 @@ finish_at n time e = record { time = time; answer = e.answer; page = page_graph 
 -- how the call b was finished, if it was
 abbrev pub finish_by : ℕ → List Sight → ℕ → Option Finish
 finish_by n [] b = None
-finish_by n (s ∷ ss) b = option_or (cond (is_turn_of s ss b) (option_map (finish_at n (length ss)) (end_of s)) None) (finish_by n ss b)
+finish_by n (s ∷ ss) b = option_or (if is_sight_of_call s ss b then option_map (finish_at n (length ss)) (end_of s) else None) (finish_by n ss b)
 
 -- a number is a stamp once it is pending no more
 abbrev pub unless_pending : ℕ → Option ℕ
-unless_pending x = cond (x == pending) None (Some x)
+unless_pending x = if x == pending then None else Some x
 
 -- the stamp that the change of a deed bears in the cells: ins of the row that was linked, or the del that was made pending
 abbrev pub deed_stamp : Sizes → List ℕ → Deed → Option ℕ

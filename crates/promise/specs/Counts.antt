@@ -8,18 +8,18 @@ use Rattle.places.specs.declared.place.Pair.{Pair}
 use Rattle.places.specs.declared.place.Change.{Change}
 use Rattle.places.specs.declared.place.Survey.{Survey}
 use Rattle.places.specs.declared.place.Call.TheVariants as call
-use Rattle.stepper.specs.declared.request.Request.TheVariants.{Turn}
-use Rattle.stepper.specs.Requests.{turn_refused}
-use Rattle.runs.specs.Runs.{Run}
+use Rattle.machine.specs.declared.request.Request.TheVariants.{Turn}
+use Rattle.machine.specs.Requests.{turn_refused}
+use Rattle.runs.specs.Runs.{RunInTime}
 use Rattle.runs.specs.Views.{head_at}
 use Rattle.runs.specs.Seen.{open_at}
 use Rattle.runs.specs.Steps.{LinkStep}
 use Rattle.runs.specs.Reasons.{BegunBy}
-use Rattle.bounds.specs.Bounds.{count_before, rows_first, turns_taken, latest_turn}
+use Rattle.bounds.specs.Bounds.{count_before, rows_held_at_start, turns_taken, latest_turn}
 use Rattle.promise.specs.Bounds.{one_if, turns_had, until_turn, rows_linked, other_links}
 use Rattle.promise.specs.Bridges.{shown_at, SurveysBounded}
 
-module _ (R : Run) (k : ℕ) where
+module _ (R : RunInTime) (k : ℕ) where
   -- request k is a turn of the call b, or it is not
   pub data TurnsStep (b : ℕ) : Type 0 where
     own : (w : ℕ) → R.request k ≡ Turn w → w < R.sizes.workers → turn_refused (R.state k) w ≡ None → open_at R k w ≡ Some b →
@@ -39,20 +39,20 @@ module _ (R : Run) (k : ℕ) where
     pub moved : ¬ (head_at R (suc k) (head.Edge p.from p.to) ≡ head_at R k (head.Edge p.from p.to)) →
         (v : ℕ) × (R.request k ≡ Turn v) × (other_links w p b (shown_at R (suc k)).sights ≡ one_if (nat_lt b k && not (v == w)) (other_links w p b (shown_at R k).sights))
 
-pub record CountLaws (R : Run) (k : ℕ) : Type 0 where
+pub record CountLaws (R : RunInTime) (k : ℕ) : Type 0 where
   pub turns : (b : ℕ) → TurnsStep R k b
   pub rows : RowsStep R k
   pub links : (w : ℕ) (p : Pair) (b : ℕ) → (p.from < R.sizes.keys) × (p.to < R.sizes.keys) → LinksStep R k w p b
 
 abbrev pub RunsCount : Type 0
-RunsCount = (R : Run) (k : ℕ) → CountLaws R k
+RunsCount = (R : RunInTime) (k : ℕ) → CountLaws R k
 
 -- where a test holds exactly of the turns that link a row, the rows that are seen to be linked are as many as the times at which it holds
 abbrev pub RowsCounted : Type 0
-RowsCounted = (R : Run) (test : ℕ → Bool) → ((t : ℕ) → test t ≡ true → (d : Change) × (r : ℕ) × LinkStep R t d r) → ((t : ℕ) (d : Change) (r : ℕ) → LinkStep R t d r → test t ≡ true) →
+RowsCounted = (R : RunInTime) (test : ℕ → Bool) → ((t : ℕ) → test t ≡ true → (d : Change) × (r : ℕ) × LinkStep R t d r) → ((t : ℕ) (d : Change) (r : ℕ) → LinkStep R t d r → test t ≡ true) →
     (k : ℕ) → count_before k test ≡ rows_linked (shown_at R k).sights
 
 -- so snapshots and reaches keep their bound, if they do by such a test
 abbrev pub SurveysFollow : Type 0
-SurveysFollow = (test : Run → ℕ → Bool) → ((R : Run) (t : ℕ) → test R t ≡ true → (d : Change) × (r : ℕ) × LinkStep R t d r) → ((R : Run) (t : ℕ) (d : Change) (r : ℕ) → LinkStep R t d r → test R t ≡ true) →
-    ((R : Run) (now w b : ℕ) (v : Survey) → BegunBy R now w b (call.Survey v) → turns_taken R w b now ≤ 1 + 8 * (R.sizes.keys * R.sizes.keys) + (rows_first R + count_before (suc (latest_turn R w b now)) (test R))) → SurveysBounded
+SurveysFollow = (test : RunInTime → ℕ → Bool) → ((R : RunInTime) (t : ℕ) → test R t ≡ true → (d : Change) × (r : ℕ) × LinkStep R t d r) → ((R : RunInTime) (t : ℕ) (d : Change) (r : ℕ) → LinkStep R t d r → test R t ≡ true) →
+    ((R : RunInTime) (now w b : ℕ) (v : Survey) → BegunBy R now w b (call.Survey v) → turns_taken R w b now ≤ 1 + 8 * (R.sizes.keys * R.sizes.keys) + (rows_held_at_start R + count_before (suc (latest_turn R w b now)) (test R))) → SurveysBounded

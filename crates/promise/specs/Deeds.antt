@@ -11,17 +11,18 @@ use Rattle.places.specs.Marks.{is_below}
 use Rattle.places.specs.declared.place.Survey.{Survey}
 use Rattle.places.specs.declared.place.Place.TheVariants.{Raise}
 use Rattle.places.specs.Touches.{change_head, change_kind}
-use Rattle.runs.specs.Runs.{Run}
+use Rattle.runs.specs.Runs.{RunInTime}
 use Rattle.runs.specs.Views.{clock_at, mark_at}
 use Rattle.runs.specs.Seen.{open_at}
 use Rattle.runs.specs.Steps.{TurnAt}
-use Rattle.runs.specs.Times.{Past}
+use Rattle.runs.specs.Times.{Before}
 use Rattle.runs.specs.Known.{LinkEvent, EndEvent, ChangeEvent}
+use Rattle.keys.specs.Standing.{StampedBy}
 use Rattle.promise.specs.Sights.{Deed, Deed.links, Deed.ends, Deed.raises}
 use Rattle.promise.specs.Calls.{deed_by}
 use Rattle.promise.specs.Bridges.{shown_at, stamp_at, raise_at, lower_at}
 
-module _ (R : Run) where
+module _ (R : RunInTime) where
   -- turn p, of the call that began at b, raised the clock
   pub record RaiseEvent (p b : ℕ) : Type 0 where
     pub worker : ℕ
@@ -38,24 +39,16 @@ module _ (R : Run) where
 
   pub record DeedLaws (now b : ℕ) : Type 0 where
     -- what a call is seen to have done it did before
-    pub done : (x : Deed) → deed_by (shown_at R now).sights b ≡ Some x → Past now (λ p. DeedEvent p b x)
+    pub done : (x : Deed) → deed_by (shown_at R now).sights b ≡ Some x → Before now (λ p. DeedEvent p b x)
     -- what it did before is seen
     pub seen : (x : Deed) (p : ℕ) → p < now → DeedEvent p b x → deed_by (shown_at R now).sights b ≡ Some x
 
-  -- the call that began at b made a change, which bears stamp n
-  pub record StampedBy (now b n : ℕ) : Type 0 where
-    pub field : Field
-    pub change : Change
-    pub row : ℕ
-    pub made : Past now (λ p. ChangeEvent R field p b change row)
-    pub bears : mark_at R now (change_kind change) field row ≡ Stamp n
-
   -- the stamps, the numbers of the raises and the lower ends that cells and turns tell are those of the changes and of the raises
   pub record StampsTold (now b : ℕ) : Type 0 where
-    pub stamped : (n : ℕ) → stamp_at R now b ≡ Some n → StampedBy now b n
+    pub stamped : (n : ℕ) → stamp_at R now b ≡ Some n → StampedBy R now b n
     pub bears : (f : Field) (p : ℕ) (d : Change) (r n : ℕ) → p < now → ChangeEvent R f p b d r → mark_at R now (change_kind d) f r ≡ Stamp n → stamp_at R now b ≡ Some n
     pub waits : (f : Field) (p : ℕ) (d : Change) (r : ℕ) → p < now → ChangeEvent R f p b d r → mark_at R now (change_kind d) f r ≡ Pending → stamp_at R now b ≡ None
-    pub raised : (t : ℕ) → raise_at R now b ≡ Some t → Past now (λ p. RaiseEvent p b × (clock_at R p ≡ t))
+    pub raised : (t : ℕ) → raise_at R now b ≡ Some t → Before now (λ p. RaiseEvent p b × (clock_at R p ≡ t))
     pub raises_from : (p : ℕ) → p < now → RaiseEvent p b → raise_at R now b ≡ Some (clock_at R p)
     -- a change of an edge has a lower end if one of the vertex rows of its edge row has ended with a stamp below its own; no other change has one, and none without a stamp
     pub lower : (f : Field) (p : ℕ) (d : Bound) (r n : ℕ) → p < now → ChangeEvent R f p b (change.Edge d) r → mark_at R now Edge f r ≡ Stamp n →
@@ -64,7 +57,7 @@ module _ (R : Run) where
     pub unstamped : stamp_at R now b ≡ None → lower_at R now b ≡ false
 
 abbrev pub RunsStampsTold : Type 0
-RunsStampsTold = (R : Run) (now b : ℕ) → StampsTold R now b
+RunsStampsTold = (R : RunInTime) (now b : ℕ) → StampsTold R now b
 
 abbrev pub RunsDeeds : Type 0
-RunsDeeds = (R : Run) (now b : ℕ) → DeedLaws R now b
+RunsDeeds = (R : RunInTime) (now b : ℕ) → DeedLaws R now b

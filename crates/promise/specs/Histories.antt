@@ -1,8 +1,8 @@
 -- What a history shows from outside, newest first, and the state that it leads to.
 use Rattle.std.specs.Prelude.{List, [], ◌∷◌}
-use Rattle.stepper.specs.States.{State}
-use Rattle.stepper.specs.Requests.{stepped}
-use Rattle.stepper.specs.History.{Event}
+use Rattle.machine.specs.States.{State}
+use Rattle.machine.specs.Requests.{stepped}
+use Rattle.machine.specs.History.{Event}
 use Rattle.promise.specs.Sights.{Sight, sight_of}
 
 -- a state, and what was seen on the way to it

@@ -5,17 +5,17 @@ use Rattle.order.specs.Keys.{Key}
 use Rattle.order.specs.Marks.{Marks, change_key, edge_effect, edge_key}
 use Rattle.order.specs.Raises.{ShowsVisible}
 use Rattle.order.specs.Finds.{RowChange, vertex_born, vertex_ends, edge_born, edge_ends}
-use Rattle.order.specs.Marked.{Marking, CallMarked, Made}
-use Rattle.runs.specs.Runs.{Run}
+use Rattle.order.specs.Marked.{Marking, CallMarked, MadeAtKey}
+use Rattle.runs.specs.Runs.{RunInTime}
 use Rattle.runs.specs.Views.{clock_at}
-use Rattle.runs.specs.Marking.{time_bound, MarksTell, RunMarks}
+use Rattle.runs.specs.Marking.{time_bound, MarksTellRun, RunMarks}
 use Rattle.promise.specs.Bridges.{past_at, graph_at, RunsOrdered}
 
 -- the cells show the rows that are there by the last stamp
 abbrev pub RunsLeave : Type 0
-RunsLeave = (R : Run) (now : ℕ) (m : Marks) → MarksTell R now m → ShowsVisible m (clock_at R now) (graph_at R now)
+RunsLeave = (R : RunInTime) (now : ℕ) (m : Marks) → MarksTellRun R now m → ShowsVisible m (clock_at R now) (graph_at R now)
 
-module _ (R : Run) (now : ℕ) where
+module _ (R : RunInTime) (now : ℕ) where
   -- the clock of a run and the marks of its rows up to now, with keys and changes for its calls
   abbrev pub marking : Marks → (ℕ → Option Key) → (ℕ → RowChange) → Marking
   marking m key change = record { now = now; clock = clock_at R; bound = time_bound now; top = clock_at R now; marks = m; key = key; change = change }
@@ -26,17 +26,17 @@ module _ (R : Run) (now : ℕ) where
     pub calls : (b : ℕ) (k : Key) → run.key b ≡ Some k → CallMarked (past_at R now) run b k
     pub apart : (b c : ℕ) (k l : Key) → run.key b ≡ Some k → run.key c ≡ Some l → k.time ≡ l.time → k.part ≡ l.part → b ≡ c
     pub vertex_births : (r : ℕ) → (run.marks.vertex_ins r).stamp ≤ run.top →
-        Made run (run.marks.vertex_ins r) (change_key run.bound (run.marks.vertex_ins r)) (vertex_born r)
+        MadeAtKey run (run.marks.vertex_ins r) (change_key run.bound (run.marks.vertex_ins r)) (vertex_born r)
     pub vertex_endings : (r : ℕ) → (run.marks.vertex_del r).stamp ≤ run.top →
-        Made run (run.marks.vertex_del r) (change_key run.bound (run.marks.vertex_del r)) (vertex_ends r)
+        MadeAtKey run (run.marks.vertex_del r) (change_key run.bound (run.marks.vertex_del r)) (vertex_ends r)
     pub edge_births : (e : ℕ) → edge_effect run.top run.marks e (run.marks.edge_ins e) ≡ true →
-        Made run (run.marks.edge_ins e) (edge_key run.bound run.marks e (run.marks.edge_ins e)) (edge_born e)
+        MadeAtKey run (run.marks.edge_ins e) (edge_key run.bound run.marks e (run.marks.edge_ins e)) (edge_born e)
     pub edge_endings : (e : ℕ) → edge_effect run.top run.marks e (run.marks.edge_del e) ≡ true →
-        Made run (run.marks.edge_del e) (edge_key run.bound run.marks e (run.marks.edge_del e)) (edge_ends e)
+        MadeAtKey run (run.marks.edge_del e) (edge_key run.bound run.marks e (run.marks.edge_del e)) (edge_ends e)
 
 -- the calls of every run have keys and changes, whatever marks its rows have
 abbrev pub RunsKeyed : Type 0
-RunsKeyed = (R : Run) (now : ℕ) (m : RunMarks R now) → (key : ℕ → Option Key) × (change : ℕ → RowChange) × CallsMarked R now (marking R now m.marks key change)
+RunsKeyed = (R : RunInTime) (now : ℕ) (m : RunMarks R now) → (key : ℕ → Option Key) × (change : ℕ → RowChange) × CallsMarked R now (marking R now m.marks key change)
 
 -- then one order explains them from the graph at the start on, and leaves the graph that the cells show
 abbrev pub KeysSuffice : Type 0

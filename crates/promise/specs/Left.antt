@@ -1,5 +1,5 @@
 -- The graph that heads and rows show.
-use Rattle.std.specs.Prelude.{ℕ, Bool, cond, not, ◌&&◌, List, Some, None, is_some, ◌==◌, nat_lt}
+use Rattle.std.specs.Prelude.{ℕ, Bool, if◌then◌else◌, not, ◌&&◌, List, Some, None, is_some, ◌==◌, nat_lt}
 use Rattle.layout.specs.declared.sizes.Sizes.{Sizes}
 use Rattle.layout.specs.declared.names.Kind.{Kind}
 use Rattle.layout.specs.declared.names.Kind.TheVariants.{Vertex, Edge}
@@ -10,7 +10,7 @@ use Rattle.layout.specs.declared.names.Head.TheVariants as head
 use Rattle.layout.specs.declared.names.Cell.TheVariants as cell
 use Rattle.layout.specs.Rows.{no_row}
 use Rattle.places.specs.Marks.{mark_of, stamp_of}
-use Rattle.stepper.specs.Turns.{cell_at}
+use Rattle.machine.specs.Turns.{cell_at}
 use Rattle.questions.specs.Graph.{Graph}
 
 module _ (z : Sizes) (cells : List ℕ) where
@@ -41,5 +41,5 @@ module _ (z : Sizes) (cells : List ℕ) where
   abbrev pub graph_in : Graph
   graph_in = record {
     has = has_in;
-    edge = λ i j. cond (has_edge i j) (Some (cell_at z cells (cell.Weight (head_row (head.Edge i j))))) None;
+    edge = λ i j. if has_edge i j then Some (cell_at z cells (cell.Weight (head_row (head.Edge i j)))) else None;
   }

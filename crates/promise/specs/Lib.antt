@@ -10,7 +10,9 @@ pub mod Worked
 pub mod Bridges
 pub mod Deeds
 pub mod Counts
+pub mod Chains
 pub mod Answers
 pub mod Keyed
 pub mod Named
 pub mod Points
+pub mod Several

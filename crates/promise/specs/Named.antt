@@ -1,6 +1,6 @@
 -- Pages read as lists of cells show what runs see of them, cell by cell.
 use Rattle.std.specs.Prelude.{◌≡◌, ℕ}
-use Rattle.stepper.specs.States.{State}
+use Rattle.machine.specs.States.{State}
 use Rattle.runs.specs.Seen.{page_graph as named_page}
 use Rattle.promise.specs.Sights.{page_in, page_graph}
 

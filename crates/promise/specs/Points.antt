@@ -7,19 +7,19 @@ use Rattle.order.specs.Keys.{Key}
 use Rattle.order.specs.Marks.{Marks}
 use Rattle.order.specs.Finds.{RowChange, no_change}
 use Rattle.order.specs.Marked.{CallMarked}
-use Rattle.runs.specs.Runs.{Run}
+use Rattle.runs.specs.Runs.{RunInTime}
 use Rattle.runs.specs.Known.{TurnOf}
 use Rattle.runs.specs.Marking.{time_bound, RunMarks}
-use Rattle.surveys.specs.Raises.{raise_by}
+use Rattle.surveys.specs.Raises.{raise_before}
 use Rattle.promise.specs.Bridges.{past_at, raise_at}
 use Rattle.promise.specs.Promise.{PromiseHolds}
 use Rattle.promise.specs.Keyed.{marking, CallsMarked, RunsKeyed}
 
 -- the numbers of the raises that deeds tell are those that the clock tells
 abbrev pub RaisesAgree : Type 0
-RaisesAgree = (R : Run) (now b : ℕ) → raise_at R now b ≡ raise_by R now b
+RaisesAgree = (R : RunInTime) (now b : ℕ) → raise_at R now b ≡ raise_before R now b
 
-module _ (R : Run) (now : ℕ) (m : Marks) where
+module _ (R : RunInTime) (now : ℕ) (m : Marks) where
   -- a snapshot or reach that belongs to the order was finished; its key is of one of its turns, at it or right after it
   pub record SurveyKeyed (b : ℕ) : Type 0 where
     pub finish : Finish
@@ -35,11 +35,11 @@ module _ (R : Run) (now : ℕ) (m : Marks) where
 
 -- the snapshots and reaches of every run are so keyed
 abbrev pub RunsKeySurveys : Type 0
-RunsKeySurveys = (R : Run) (now : ℕ) (m : RunMarks R now) → SurveysKeyed R now m.marks
+RunsKeySurveys = (R : RunInTime) (now : ℕ) (m : RunMarks R now) → SurveysKeyed R now m.marks
 
 -- What is left to give: where they are, calls 1 to 6 have keys too, beside theirs, and the changes of the rows that have an effect are theirs.
 abbrev pub PointsKeyed : Type 0
-PointsKeyed = (R : Run) (now : ℕ) (m : RunMarks R now) → SurveysKeyed R now m.marks →
+PointsKeyed = (R : RunInTime) (now : ℕ) (m : RunMarks R now) → SurveysKeyed R now m.marks →
     (key : ℕ → Option Key) × (change : ℕ → RowChange) × CallsMarked R now (marking R now m.marks key change)
 
 -- then all calls of every run have

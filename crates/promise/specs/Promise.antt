@@ -1,15 +1,15 @@
 -- The whole promise, of every history from a clean state; an opening is one, with the empty graph.
-use Rattle.std.specs.Prelude.{◌≡◌, ℕ, ◌≤◌, Bool, true, false, cond, ◌&&◌, List, [], ◌∷◌, ◌++◌, length, drop, Some, None, Option, ◌==◌}
+use Rattle.std.specs.Prelude.{◌≡◌, ℕ, ◌≤◌, Bool, true, false, if◌then◌else◌, ◌&&◌, List, [], ◌∷◌, ◌++◌, length, drop, Some, None, Option, ◌==◌}
 use Rattle.layout.specs.declared.sizes.Sizes.{Sizes}
 use Rattle.layout.specs.Layout.{needed}
 use Rattle.places.specs.declared.place.Call.{Call}
 use Rattle.places.specs.declared.place.Call.TheVariants as call
-use Rattle.stepper.specs.declared.request.Request.{Request}
-use Rattle.stepper.specs.declared.request.Reply.{Reply}
-use Rattle.stepper.specs.States.{State}
-use Rattle.stepper.specs.Workers.{finishes}
-use Rattle.stepper.specs.Opening.{opened_state}
-use Rattle.stepper.specs.History.{Event, Traces}
+use Rattle.machine.specs.declared.request.Request.{Request}
+use Rattle.machine.specs.declared.request.Reply.{Reply}
+use Rattle.machine.specs.States.{State}
+use Rattle.machine.specs.Workers.{finishes}
+use Rattle.machine.specs.Opening.{opened_state}
+use Rattle.machine.specs.History.{Event, Traces}
 use Rattle.laws.specs.Clean.{Clean}
 use Rattle.questions.specs.Graph.{Graph}
 use Rattle.order.specs.Graph.{empty}
@@ -27,8 +27,8 @@ is_survey c = false
 
 -- a worker's finished page after a sight: 30 and 31 finish it, and the next begin of a snapshot or reach ends that
 abbrev pub page_after : Sight → ℕ → Option (List ℕ) → Option (List ℕ)
-page_after (begins v c) w page = cond ((v == w) && is_survey c) None page
-page_after (turns v d (Some e)) w page = cond ((v == w) && finishes e.answer) (Some e.page) page
+page_after (begins v c) w page = if (v == w) && is_survey c then None else page
+page_after (turns v d (Some e)) w page = if (v == w) && finishes e.answer then Some e.page else page
 page_after s w page = page
 
 -- the finished page of worker w, as it was at its answer

@@ -7,12 +7,12 @@ use Rattle.codes.specs.declared.refusal.Refusal.{Refusal}
 use Rattle.codes.specs.declared.refusal.Refusal.TheVariants.{KeyOutside, WorkerIdle}
 use Rattle.layout.specs.declared.sizes.Sizes.{Sizes}
 use Rattle.layout.specs.Layout.{needed}
-use Rattle.stepper.specs.declared.request.Request.{Request}
-use Rattle.stepper.specs.declared.request.Request.TheVariants as request
-use Rattle.stepper.specs.declared.request.Reply.TheVariants as reply
-use Rattle.stepper.specs.States.{State}
-use Rattle.stepper.specs.Opening.{opened_state}
-use Rattle.stepper.specs.History.{Event}
+use Rattle.machine.specs.declared.request.Request.{Request}
+use Rattle.machine.specs.declared.request.Request.TheVariants as request
+use Rattle.machine.specs.declared.request.Reply.TheVariants as reply
+use Rattle.machine.specs.States.{State}
+use Rattle.machine.specs.Opening.{opened_state}
+use Rattle.machine.specs.History.{Event}
 
 -- two keys, two workers, four rows of each kind, greatest clock 9
 abbrev pub two : Sizes

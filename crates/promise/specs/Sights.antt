@@ -1,5 +1,5 @@
 -- What is seen of one request from outside: the request, its reply, and the cells before and after it. No record of a worker is looked at.
-use Rattle.std.specs.Prelude.{ℕ, zero, suc, ◌+◌, ◌*◌, cond, not, ◌&&◌, List, take, drop, Some, None, Option, ◌==◌, nat_lt, slice_index}
+use Rattle.std.specs.Prelude.{ℕ, zero, suc, ◌+◌, ◌*◌, if◌then◌else◌, not, ◌&&◌, List, take, drop, Some, None, Option, ◌==◌, nat_lt, slice_index}
 use Rattle.std.specs.Option.{option_or}
 use Rattle.codes.specs.declared.answer.Answer.{Answer}
 use Rattle.layout.specs.declared.sizes.Sizes.{Sizes}
@@ -14,11 +14,11 @@ use Rattle.layout.specs.Rows.{rows_all}
 use Rattle.places.specs.Marks.{pending}
 use Rattle.places.specs.declared.place.Call.{Call}
 use Rattle.places.specs.Calls.{call_named}
-use Rattle.stepper.specs.declared.request.Request.{Request}
-use Rattle.stepper.specs.declared.request.Request.TheVariants as request
-use Rattle.stepper.specs.declared.request.Reply.{Reply}
-use Rattle.stepper.specs.declared.request.Reply.TheVariants as reply
-use Rattle.stepper.specs.Turns.{cell_at}
+use Rattle.machine.specs.declared.request.Request.{Request}
+use Rattle.machine.specs.declared.request.Request.TheVariants as request
+use Rattle.machine.specs.declared.request.Reply.{Reply}
+use Rattle.machine.specs.declared.request.Reply.TheVariants as reply
+use Rattle.machine.specs.Turns.{cell_at}
 use Rattle.questions.specs.Graph.{Graph}
 use Rattle.questions.specs.Pages.{weight_of}
 
@@ -48,15 +48,21 @@ first_below f (suc n) = option_or (first_below f n) (f n)
 module _ (z : Sizes) (before after : List ℕ) where
   -- a head moved to a row
   abbrev pub head_moved : Head → Option Deed
-  head_moved h = cond (cell_at z before (cell.Head h) == cell_at z after (cell.Head h)) None (Some (links h (cell_at z after (cell.Head h))))
+  head_moved h =
+      if cell_at z before (cell.Head h) == cell_at z after (cell.Head h) then None
+      else Some (links h (cell_at z after (cell.Head h)))
 
   -- del of a row went from 0 to pending
   abbrev pub del_begun : Kind → ℕ → Option Deed
-  del_begun k r = cond ((cell_at z before (cell.Stamp k Del r) == 0) && (cell_at z after (cell.Stamp k Del r) == pending)) (Some (ends k r)) None
+  del_begun k r =
+      if (cell_at z before (cell.Stamp k Del r) == 0) && (cell_at z after (cell.Stamp k Del r) == pending) then Some (ends k r)
+      else None
 
   -- the clock moved
   abbrev pub clock_moved : Option Deed
-  clock_moved = cond (cell_at z before cell.Clock == cell_at z after cell.Clock) None (Some (raises (cell_at z before cell.Clock)))
+  clock_moved =
+      if cell_at z before cell.Clock == cell_at z after cell.Clock then None
+      else Some (raises (cell_at z before cell.Clock))
 
   abbrev pub some_head_moved : Option Deed
   some_head_moved = option_or
@@ -86,5 +92,5 @@ sight_of z before after q r = rests
 abbrev pub page_graph : ℕ → List ℕ → Graph
 page_graph n page = record {
   has = λ k. nat_lt k n && not (slice_index page k == 0);
-  edge = λ i j. cond (nat_lt i n && nat_lt j n) (weight_of (slice_index page (n + n * i + j))) None;
+  edge = λ i j. if nat_lt i n && nat_lt j n then weight_of (slice_index page (n + n * i + j)) else None;
 }

@@ -1,5 +1,5 @@
 -- What the definitions say of worked histories, and a page that they refuse.
-use Rattle.std.specs.Prelude.{◌≡◌, ℕ, Bool, true, false, cond, List, [], ◌∷◌, ◌++◌, drop, map, Some, None, Option, ◌==◌}
+use Rattle.std.specs.Prelude.{◌≡◌, ℕ, Bool, true, false, if◌then◌else◌, List, [], ◌∷◌, ◌++◌, drop, map, Some, None, Option, ◌==◌}
 use Rattle.std.specs.Option.{option_map}
 use Rattle.codes.specs.declared.answer.Answer.{Answer}
 use Rattle.codes.specs.declared.answer.Answer.TheVariants.{VertexAdded, VertexAbsent, VertexRemoved, EdgeAdded, EdgeRemoved, EdgeAlready, SnapshotTaken, ReachTaken, ClockSpent}
@@ -9,7 +9,7 @@ use Rattle.places.specs.declared.place.Op.TheVariants.{Add, Remove, Contains}
 use Rattle.places.specs.declared.place.Survey.TheVariants.{Snapshot, Reach}
 use Rattle.places.specs.declared.place.Call.{Call}
 use Rattle.places.specs.declared.place.Call.TheVariants as call
-use Rattle.stepper.specs.History.{Event, Traces}
+use Rattle.machine.specs.History.{Event, Traces}
 use Rattle.order.specs.Graph.{empty}
 use Rattle.order.specs.Past.{Finish, Past}
 use Rattle.order.specs.Order.{OneOrder}
@@ -77,10 +77,12 @@ pub record Shows (z : Sizes) (h : List Event) (sights : List Sight) (cells : Lis
 -- a snapshot whose page shows the weight 7 from 0 to 1, and none of these keys
 abbrev pub hidden_weight : Past
 hidden_weight = record {
-  begun = λ b. cond (b == 0) (Some (call.Survey Snapshot)) None;
-  finish = λ b. cond (b == 0) (Some (record { time = 7; answer = SnapshotTaken; page = page_graph 2 (0 ∷ 0 ∷ 0 ∷ 7 ∷ 0 ∷ 0 ∷ []) })) None;
+  begun = λ b. if b == 0 then Some (call.Survey Snapshot) else None;
+  finish = λ b.
+      if b == 0 then Some (record { time = 7; answer = SnapshotTaken; page = page_graph 2 (0 ∷ 0 ∷ 0 ∷ 7 ∷ 0 ∷ 0 ∷ []) })
+      else None;
   stamp = λ b. None;
-  raise = λ b. cond (b == 0) (Some 1) None;
+  raise = λ b. if b == 0 then Some 1 else None;
   lower_end = λ b. false;
 }
 

@@ -6,6 +6,7 @@ mod Spreading
 mod Listing
 mod Searching
 mod Fixed
+mod Staying
 mod Distances
 mod OneOrder
 pub mod Worked

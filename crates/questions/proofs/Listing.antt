@@ -30,10 +30,10 @@ no_edge (Some v) b e h w f = let z : true ≡ false = cc in grind arith
 
 module _ (g : Graph) {n : ℕ} (inside : Inside g n) {s : ℕ} where
   -- the start is listed, and no key is served
-  pub begun : s < n → (bs : List Bool) → n ≡ length bs → ((k : ℕ) → flag bs k ≡ false) → (xs ys : List ℕ) (c h : ℕ) → 0 < length xs →
-      ys ≡ set xs 0 s → c ≡ 1 → h ≡ 0 → Served g n s h (set bs s true) ys c xs
-  begun l bs all none xs ys c h room at_0 one zero =
-      rw (at_0, one, zero) (
+  pub begun : s < n → (bs : List Bool) → n ≡ length bs → ((k : ℕ) → flag bs k ≡ false) → (xs ys : List ℕ) (c : ℕ) → 0 < length xs →
+      ys ≡ set xs 0 s → c ≡ 1 → Served g n s 0 (set bs s true) ys c xs
+  begun l bs all none xs ys c room at_0 one =
+      rw (at_0, one) (
         omega arith,
         first g inside l none (lists_set bs s (omega arith)) (all_unlisted (flag bs) none n) (get_or-set_same xs 0 s 0 room),
         (λ p a. get_or-set_other xs 0 p s 0 (λ z. omega arith)),
@@ -41,16 +41,16 @@ module _ (g : Graph) {n : ℕ} (inside : Inside g n) {s : ℕ} where
       )
 
   -- a key is served once its edges to all keys were looked at
-  pub turned : {h h' c k : ℕ} {bs : List Bool} {xs xs₀ : List ℕ} → Serving g n s h n bs xs c k xs₀ → h' ≡ h + 1 → Served g n s h' bs xs c xs₀
-  turned q e = rw e ((let t = q.turn in omega arith), next g inside q.turn q.spread, q.others, q.area)
+  pub turned : {h c k : ℕ} {bs : List Bool} {xs xs₀ : List ℕ} → Serving g n s h n bs xs c k xs₀ → Served g n s (h + 1) bs xs c xs₀
+  turned q = ((let t = q.turn in omega arith), next g inside q.turn q.spread, q.others, q.area)
 
   -- once all keys are served, the list is complete
   pub complete_list : {h c : ℕ} (bs : List Bool) {xs xs₀ : List ℕ} → Served g n s h bs xs c xs₀ → c ≤ h → Ordered g s c xs₀ xs
   complete_list bs (below, spread, others, area) l = record { list = complete g inside spread l; others = others }
 
 -- the area is the one that was lent
-pub ended : {g : Graph} {s c d : ℕ} {xs ys zs xs₀ : List ℕ} → zs ≡ ys → ys ≡ xs → d ≡ c → Ordered g s c xs₀ xs → Ordered g s d xs₀ zs
-ended e f d o = rw (e, f, d) o
+pub ended : {g : Graph} {s c : ℕ} {xs zs xs₀ : List ℕ} → zs ≡ xs → Ordered g s c xs₀ xs → Ordered g s c xs₀ zs
+ended e o = rw e o
 
 module _ (g : Graph) {n : ℕ} (inside : Inside g n) {s h j : ℕ} {bs : List Bool} {xs : List ℕ} {c k : ℕ} {xs₀ : List ℕ} (q : Serving g n s h j bs xs c k xs₀) where
   -- a key to which no edge leads, or which is listed, is passed over

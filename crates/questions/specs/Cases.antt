@@ -1,14 +1,15 @@
 -- A worked case: three keys, with edges 0 → 1 of 5, 1 → 2 of 2 and 0 → 2 of 9.
 use Rattle.std.specs.Prelude.{◌≡◌, ℕ, List, [], ◌∷◌, Some, None, Option}
 use Rattle.questions.specs.Graph.{Graph}
-use Rattle.questions.specs.Pages.{nothing, keys_of, shown}
+use Rattle.codes.specs.Page.{no_edge}
+use Rattle.questions.specs.Pages.{keys_of, shown}
 use Rattle.questions.specs.Measures.{Scale, total_scale, weakest_scale}
 use Rattle.questions.specs.Best.{Entered}
 use Rattle.questions.specs.Order.{key, BreadthFirst}
 
 -- the cells of the keys, then a row for the edges from each key
 abbrev pub cells : List ℕ
-cells = 1 ∷ 1 ∷ 1 ∷ nothing ∷ 5 ∷ 9 ∷ nothing ∷ nothing ∷ 2 ∷ nothing ∷ nothing ∷ nothing ∷ []
+cells = 1 ∷ 1 ∷ 1 ∷ no_edge ∷ 5 ∷ 9 ∷ no_edge ∷ no_edge ∷ 2 ∷ no_edge ∷ no_edge ∷ no_edge ∷ []
 
 abbrev pub three : Graph
 three = shown cells 3

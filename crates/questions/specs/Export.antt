@@ -1,5 +1,5 @@
 -- What the questions over the cells of a page answer, and the byte that a C program gets.
-use Rattle.std.specs.Prelude.{◌≡◌, ℕ, cond, List, Some, None, Option, Ok, Err, Result, ◌≢◌}
+use Rattle.std.specs.Prelude.{◌≡◌, ℕ, if◌then◌else◌, List, Some, None, Option, Ok, Err, Result, ◌≢◌}
 use Rattle.codes.specs.declared.refusal.Refusal.TheVariants.{SizeOutside}
 use Rattle.questions.specs.declared.entry.Entry.{Entry}
 use Rattle.questions.specs.declared.unanswered.Unanswered.{Unanswered}
@@ -13,7 +13,7 @@ use Rattle.questions.specs.Order.{Ordered}
 
 -- cells that make no page are refused first
 abbrev pub unanswered_on : List ℕ → ℕ → ℕ → ℕ → Option Unanswered
-unanswered_on cells n start area = cond (fits cells n) (unanswered n (shown cells n) start area) (Some (Refused SizeOutside))
+unanswered_on cells n start area = if fits cells n then unanswered n (shown cells n) start area else Some (Refused SizeOutside)
 
 -- the area holds the entries in the form of C; a question that is not answered leaves it as it was
 abbrev pub EntriesOr : Result (Unit {0}) Unanswered → Scale → List ℕ → ℕ → ℕ → List Entry → List Entry → Type 0

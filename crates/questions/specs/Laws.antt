@@ -1,5 +1,5 @@
 -- What the definitions of the answers come to.
-use Rattle.std.specs.Prelude.{◌≡◌, ℕ, ◌+◌, ◌<◌, ◌≤◌, Option}
+use Rattle.std.specs.Prelude.{◌≡◌, ℕ, ◌+◌, ◌<◌, ◌≤◌, true, Option}
 use Rattle.questions.specs.Graph.{Graph, Walk, here, on}
 use Rattle.questions.specs.Measures.{Scale}
 use Rattle.questions.specs.Best.{Entered}
@@ -12,6 +12,10 @@ EntryFixed m = (g : Graph) (s k : ℕ) (x y : Option ℕ) → Entered m g s k x 
 -- there is one breadth-first list
 abbrev pub OrderFixed : Type 0
 OrderFixed = (g : Graph) (s : ℕ) (xs ys : ℕ → ℕ) (c d : ℕ) → BreadthFirst g s xs c → BreadthFirst g s ys d → (c ≡ d) × ((p : ℕ) → p < c → xs p ≡ ys p)
+
+-- walks from a key that is shown lead to keys that are shown
+abbrev pub WalksShown : Graph → Type 0
+WalksShown g = (s k : ℕ) → g.has s ≡ true → Walk g s k → g.has k ≡ true
 
 -- the number of edges of a walk
 abbrev pub edges : {g : Graph} {s k : ℕ} → Walk g s k → ℕ

@@ -1,5 +1,6 @@
 pub mod Graph
 pub mod Pages
+pub mod Rows
 pub mod Measures
 pub mod Search
 pub mod Unanswered

@@ -1,5 +1,5 @@
 -- Breadth first, neighbours rising.
-use Rattle.std.specs.Prelude.{◌≡◌, ℕ, ◌+◌, ◌<◌, ◌≤◌, ◌⊎◌, List, Some, None, Option, Ok, Err, Result, ◌≢◌, slice_index}
+use Rattle.std.specs.Prelude.{◌≡◌, ℕ, ◌<◌, ◌≤◌, ◌⊎◌, List, Some, None, Option, Ok, Err, Result, ◌≢◌, slice_index}
 use Rattle.questions.specs.declared.unanswered.Unanswered.{Unanswered}
 use Rattle.questions.specs.Graph.{Graph, Walk}
 
@@ -26,10 +26,10 @@ pub record BreadthFirst (g : Graph) (s : ℕ) (xs : ℕ → ℕ) (c : ℕ) : Typ
   pub earliest : (p : ℕ) → 0 < p → p < c → (from p < p) × Earliest g xs (from p) (xs p)
   pub ordered : (p q : ℕ) → 0 < p → p < q → q < c → (from p < from q) ⊎ ((from p ≡ from q) × (xs p < xs q))
 
--- of c listed keys h were served; the next one, if one is left, is served then
-abbrev pub Next : List ℕ → ℕ → ℕ → ℕ → Option ℕ → Type 0
-Next xs c h h' None = (c ≤ h) × (h' ≡ h)
-Next xs c h h' (Some k) = (h < c) × (h' ≡ h + 1) × (k ≡ key xs h)
+-- the key at a place of c listed keys, if there is one
+abbrev pub Listed : List ℕ → ℕ → ℕ → Option ℕ → Type 0
+Listed xs c p None = c ≤ p
+Listed xs c p (Some k) = (p < c) × (k ≡ key xs p)
 
 -- the area holds the list, and past it what it held before
 pub record Ordered (g : Graph) (s c : ℕ) (old new : List ℕ) : Type 0 where

@@ -1,14 +1,7 @@
 -- What the cells of a page show.
-use Rattle.std.specs.Prelude.{ℕ, ◌+◌, ◌*◌, Bool, cond, not, ◌&&◌, List, length, Some, None, Option, ◌==◌, nat_le, nat_lt, slice_index}
+use Rattle.std.specs.Prelude.{ℕ, ◌+◌, ◌*◌, Bool, if◌then◌else◌, not, ◌&&◌, List, length, None, ◌==◌, nat_le, nat_lt, slice_index}
 use Rattle.questions.specs.Graph.{Graph}
-
--- the number that stands for no edge
-abbrev pub nothing : ℕ
-nothing = 0
-
--- a pair's cell holds a weight or nothing
-abbrev pub weight_of : ℕ → Option ℕ
-weight_of x = cond (x == nothing) None (Some x)
+pub use Rattle.codes.specs.Page.{weight_of}
 
 -- a page has 1 to 64 keys, n cells for the keys, and n × n for the pairs
 abbrev pub fits : List ℕ → ℕ → Bool
@@ -16,7 +9,7 @@ fits cells n = nat_le 1 n && (nat_le n 64 && length cells == n + n * n)
 
 -- cells that do not fit make a page with no keys
 abbrev pub keys_of : List ℕ → ℕ → ℕ
-keys_of cells n = cond (fits cells n) n 0
+keys_of cells n = if fits cells n then n else 0
 
 -- a key is shown where its cell is not 0
 abbrev pub has : List ℕ → ℕ → ℕ → Bool
@@ -26,5 +19,5 @@ has cells n k = nat_lt k n && not (slice_index cells k == 0)
 abbrev pub shown : List ℕ → ℕ → Graph
 shown cells n = record {
   has = has cells n;
-  edge = λ i j. cond (has cells n i && has cells n j) (weight_of (slice_index cells (n + n * i + j))) None;
+  edge = λ i j. if has cells n i && has cells n j then weight_of (slice_index cells (n + n * i + j)) else None;
 }

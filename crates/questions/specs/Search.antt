@@ -1,5 +1,5 @@
 -- What one step of the search does.
-use Rattle.std.specs.Prelude.{◌≡◌, ℕ, ◌<◌, ◌≤◌, Bool, true, false, cond, List, Some, None, Option, nat_lt, slice_get, slice_index_or}
+use Rattle.std.specs.Prelude.{◌≡◌, ℕ, ◌<◌, ◌≤◌, Bool, true, false, if◌then◌else◌, List, Some, None, Option, nat_lt, slice_get, slice_index_or}
 use Rattle.questions.specs.declared.best_first.Label.{Label}
 use Rattle.questions.specs.Graph.{Graph}
 use Rattle.questions.specs.Measures.{Scale, NoBetter}
@@ -35,11 +35,11 @@ Picked m L d n (Some (b, v)) = (b < n) × Open L d b v ×
 abbrev pub offered : Scale → ℕ → Option ℕ → Option ℕ → Option ℕ
 offered m v x None = x
 offered m v None (Some w) = Some (m.extend v w)
-offered m v (Some u) (Some w) = Some (cond (m.better (m.extend v w) u) (m.extend v w) u)
+offered m v (Some u) (Some w) = Some (if m.better (m.extend v w) u then m.extend v w else u)
 
 -- the keys below n have been offered the value v, extended over the edges from k
 abbrev pub Relaxed : Scale → Graph → ℕ → ℕ → ℕ → (ℕ → Option ℕ) → (ℕ → Option ℕ) → Type 0
-Relaxed m g v k n d e = (j : ℕ) → e j ≡ cond (nat_lt j n) (offered m v (d j) (g.edge k j)) (d j)
+Relaxed m g v k n d e = (j : ℕ) → e j ≡ (if nat_lt j n then offered m v (d j) (g.edge k j) else d j)
 
 -- the values of the first n labels stand in the area, in its form, and past them what it held before
 pub record Written {A : Type 0} (Form : Option ℕ → A → Type 0) (labels : List Label) (n : ℕ) (old new : List A) : Type 0 where

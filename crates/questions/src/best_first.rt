@@ -8,14 +8,14 @@ use crate::measure::Measure;
 use crate::unanswered::{Unanswered, asked};
 use crate::view::GraphView;
 
-// What the search knows of a key: the best value of the walks found so far, and whether the key is listed.
+/// What the search knows of a key: the best value of the walks found so far, and whether the key is listed.
 #[derive(Clone, Copy, Default)]
 pub struct Label {
     pub value: Option<u32>,
     pub listed: bool,
 }
 
-// The key that has a value, is not listed and has the best value, the lowest of equal ones, and its value.
+/// The key that has a value, is not listed and has the best value, the lowest of equal ones, and its value.
 pub fn pick<M: Measure>(labels: &[Label]) -> Option<(usize, u32)>
     ensures { Picked M.scale (listed_at labels.now) (value_at labels.now) (length labels.now) result }
 {
@@ -34,7 +34,7 @@ pub fn pick<M: Measure>(labels: &[Label]) -> Option<(usize, u32)>
     found
 }
 
-// Offers each key that an edge from `k` leads to the value of `k`, extended.
+/// Offers each key that an edge from `k` leads to the value of `k`, extended.
 pub fn relax<G: GraphView, M: Measure>(page: &G, k: usize, from: u32, labels: &mut [Label])
     requires { (k < G.keys page.now) × (length labels.old ≡ G.keys page.now) }
     ensures values { Relaxed M.scale (G.graph page.now) from k (G.keys page.now) (value_at labels.old) (value_at labels.new) }
@@ -76,8 +76,8 @@ fn write<T: From<Option<u32>> + Copy>(labels: &[Label], out: &mut [T])
     }
 }
 
-// Writes the entry of each key into `out`, in any form that is made of an option: the best value of the walks from `start` to the
-// key, or none where there is no walk.
+/// Writes the entry of each key, in any form that is made of an option, to the front of `out`: the best value of the walks from
+/// `start` to the key, or none where there is no walk. Where there is no answer, as `Unanswered` says, `out` stays as it was.
 pub fn best<G: GraphView, M: Measure, T: From<Option<u32>> + Copy>(
     page: &G,
     start: usize,

@@ -2,17 +2,17 @@
 ghost use Rattle.std.specs.Prelude.{◌≡◌, ℕ, ◌+◌, ◌<◌, ◌≤◌, false, length, slice_set};
 ghost use Rattle.questions.specs.Search.{flag};
 ghost use Rattle.questions.specs.Unanswered.{unanswered, Refuses};
-ghost use Rattle.questions.specs.Order.{Ordered, OrderedOr, Next};
+ghost use Rattle.questions.specs.Order.{Ordered, OrderedOr, Listed};
 
+use crate::row::Row;
 use crate::unanswered::{Unanswered, asked};
 use crate::view::GraphView;
 
-// The keys listed so far, at the front of the caller's area, and how many of them were served.
+// The keys listed so far, at the front of the caller's area.
 #[derive(Drop)]
 struct Listing<'a> {
     out: &'a mut [u8],
     count: usize,
-    served: usize,
 }
 
 impl<'a> Listing<'a> {
@@ -20,13 +20,9 @@ impl<'a> Listing<'a> {
     fn new(out: &'a mut [u8]) -> Listing<'a>
         ensures same_reference { result.out.ghost_name ≡ out.entry.ghost_name }
         ensures area { result.out.now ≡ out.old }
-        ensures none { (result.count ≡ 0) × (result.served ≡ 0) }
+        ensures none { result.count ≡ 0 }
     {
-        Listing {
-            out,
-            count: 0,
-            served: 0,
-        }
+        Listing { out, count: 0 }
     }
 
     // Lists a key.
@@ -35,26 +31,17 @@ impl<'a> Listing<'a> {
         ensures same_reference { self.new.out.ghost_name ≡ self.old.out.ghost_name }
         ensures area { self.new.out.now ≡ slice_set self.old.out.now self.old.count j }
         ensures count { self.new.count ≡ self.old.count + 1 }
-        ensures served { self.new.served ≡ self.old.served }
     {
         self.out[self.count] = j as u8;
         self.count += 1;
     }
 
-    // The next key to serve, if one is left.
-    fn next(&mut self) -> Option<usize>
-        requires { self.old.count ≤ length self.old.out.now }
-        ensures same_reference { self.new.out.ghost_name ≡ self.old.out.ghost_name }
-        ensures area { self.new.out.now ≡ self.old.out.now }
-        ensures count { self.new.count ≡ self.old.count }
-        ensures served { Next self.old.out.now self.old.count self.old.served self.new.served result }
+    // The key at a place of the list, if so many are listed.
+    fn get(&self, at: usize) -> Option<usize>
+        requires { self.now.count ≤ length self.now.out.now }
+        ensures { Listed self.now.out.now self.now.count at result }
     {
-        if self.served >= self.count {
-            return None;
-        }
-        let k = self.out[self.served] as usize;
-        self.served += 1;
-        Some(k)
+        (at < self.count).then(|| usize::from(self.out[at]))
     }
 }
 
@@ -69,10 +56,11 @@ fn spread<G: GraphView>(page: &G, start: usize, out: &mut [u8], listed: &mut [bo
     let mut listing = Listing::new(out);
     listing.push(start);
     listed[start] = true;
-    while let Some(k) = listing.next() {
-        for (j, seen) in listed.iter_mut().enumerate() {
-            if page.weight(k, j).is_some() && !*seen {
-                *seen = true;
+    for served in 0..n {
+        let Some(k) = listing.get(served) else { break };
+        for (j, weight) in Row::new(page, k) {
+            if weight.is_some() && !listed[j] {
+                listed[j] = true;
                 listing.push(j);
             }
         }
@@ -80,7 +68,8 @@ fn spread<G: GraphView>(page: &G, start: usize, out: &mut [u8], listed: &mut [bo
     listing.count
 }
 
-// Writes the keys that walks from `start` reach into `out`, breadth first, and answers how many they are.
+/// Writes the keys that walks from `start` reach to the front of `out`, breadth first, the neighbours of a key rising, and answers how
+/// many they are. Where there is no answer, as `Unanswered` says, `out` stays as it was.
 pub fn order<G: GraphView>(page: &G, start: usize, out: &mut [u8]) -> Result<usize, Unanswered>
     ensures answer { Refuses (unanswered (G.keys page.now) (G.graph page.now) start (length out.old)) result }
     ensures after { OrderedOr result (G.graph page.now) start out.old out.new }

@@ -1,11 +1,13 @@
 // The entry of a key in an answer, for C, which has no option.
 ghost use Rattle.questions.specs.Entries.{GivesEntry};
 
-// 1 and the best value of the walks to the key, or 0 and 0 where there is no walk.
+/// The mark 1 and the best value of the walks to the key, or 0 and 0 where there is no walk.
 #[derive(Clone, Copy, PartialEq, Eq, Debug)]
 #[repr(C)]
 pub struct Entry {
+    /// 1 where a walk reaches the key, else 0.
     pub mark: u8,
+    /// The best value, or 0.
     pub value: u32,
 }
 

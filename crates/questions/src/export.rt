@@ -14,6 +14,8 @@ use crate::measure::{Measure, Total, Weakest};
 use crate::page::Page;
 use crate::unanswered::Unanswered;
 
+/// The question `order` over the cells of a page of `keys` keys. Cells that make no page are refused with `SizeOutside`, before the
+/// reasons of `order`; where there is no answer `out` stays as it was.
 pub fn questions_order(
     cells: &[u32],
     keys: usize,
@@ -27,6 +29,7 @@ pub fn questions_order(
     order(&page, start, out)
 }
 
+// The question `best` over cells, by any measure.
 fn best_of<M: Measure>(
     cells: &[u32],
     keys: usize,
@@ -40,6 +43,7 @@ fn best_of<M: Measure>(
     best::<Page<'_>, M, Entry>(&page, start, out)
 }
 
+/// The question `best` by `Total` over the cells of a page of `keys` keys, refused as `questions_order` is.
 pub fn questions_total(
     cells: &[u32],
     keys: usize,
@@ -52,6 +56,7 @@ pub fn questions_total(
     best_of::<Total>(cells, keys, start, out)
 }
 
+/// The question `best` by `Weakest` over the cells of a page of `keys` keys, refused as `questions_order` is.
 pub fn questions_weakest(
     cells: &[u32],
     keys: usize,

@@ -1,11 +1,14 @@
 // A page of cells: one for each key, then one for each pair of keys.
 ghost use Rattle.std.specs.Prelude.{◌≡◌, ◌+◌, ◌*◌, ◌≤◌, length, is_ok, IfOk, IfErr};
 ghost use Rattle.codes.specs.declared.refusal.Refusal.TheVariants.{SizeOutside};
-ghost use Rattle.questions.specs.Pages.{fits, keys_of, weight_of, shown};
+ghost use Rattle.questions.specs.Pages.{fits, keys_of, shown};
+ghost use Rattle.std.proofs.Common.{rules};
 
 use crate::view::GraphView;
-use codes::Refusal;
+use codes::{Refusal, weight_of};
 
+/// A page of 1 to 64 keys over its cells, or a page with no keys. Cell k is 0 where key k is not shown; the cell of the pair (i, j)
+/// stands at N + N × i + j and holds a weight or `NO_EDGE`. An edge counts only where both its keys are shown.
 #[derive(Drop)]
 pub struct Page<'a> {
     cells: &'a [u32],
@@ -14,7 +17,7 @@ pub struct Page<'a> {
 }
 
 impl<'a> Page<'a> {
-    // Cells that make no page give a page with no keys, for callers with no refusal to pass on.
+    /// A page of `keys` keys. Cells that make no page give a page with no keys, for callers with no refusal to pass on.
     pub fn new(cells: &'a [u32], keys: usize) -> Page<'a>
         ensures cells { result.cells.now ≡ cells.now }
         ensures keys { result.keys ≡ keys_of cells.now keys }
@@ -22,7 +25,7 @@ impl<'a> Page<'a> {
         Page::try_new(cells, keys).unwrap_or(Page { cells, keys: 0 })
     }
 
-    // A page of so many keys; cells that make no page are refused.
+    /// A page of `keys` keys, from 1 to 64, over exactly keys + keys × keys cells; other cells are refused with `SizeOutside`.
     pub fn try_new(cells: &'a [u32], keys: usize) -> Result<Page<'a>, Refusal>
         ensures fits { is_ok result ≡ fits cells.now keys }
         ensures page { IfOk result (λ page. (page.cells.now ≡ cells.now) × (page.keys ≡ keys)) }
@@ -34,16 +37,6 @@ impl<'a> Page<'a> {
             Err(Refusal::SizeOutside)
         }
     }
-}
-
-// The number that stands for no edge.
-pub const NOTHING: u32 = 0;
-
-// A pair's cell holds a weight or nothing.
-fn weight_of(cell: u32) -> Option<u32>
-    ensures { result ≡ weight_of cell }
-{
-    (cell != NOTHING).then_some(cell)
 }
 
 impl<'a> GraphView for Page<'a> {
@@ -66,4 +59,6 @@ impl<'a> GraphView for Page<'a> {
             None
         }
     }
+
+    ghost joins_shown = { Prim.search rules };
 }

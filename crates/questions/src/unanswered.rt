@@ -1,17 +1,20 @@
 // Why a question is not answered, and the byte of each reason.
-ghost use Rattle.std.specs.Prelude.{◌≡◌};
+ghost use Rattle.std.specs.Prelude.{◌≡◌, Some};
 ghost use Rattle.questions.specs.declared.unanswered.Unanswered.TheVariants.{Refused};
-ghost use Rattle.questions.specs.Unanswered.{unanswered_code, unanswered, Refuses};
+ghost use Rattle.questions.specs.Unanswered.{unanswered_code, unanswered, words, Refuses};
 
 use crate::view::GraphView;
 use codes::{Answer, Refusal};
 use std::fmt;
 
+/// Why a question is not answered. It prints its reason in words, and `u8::from` gives its byte.
 // An absent start is a reason of its own, so no Option of a refusal.
 #[derive(Clone, Copy, PartialEq, Eq, Debug)]
 pub enum Unanswered {
+    /// The cells make no page (`SizeOutside`), the start is not below the number of keys (`KeyOutside`), or the area has fewer entries
+    /// than the page has keys (`AreaTooSmall`).
     Refused(Refusal),
-    // The start is not on the page.
+    /// The page does not show the start.
     Absent,
 }
 
@@ -35,19 +38,21 @@ impl From<Unanswered> for u8 {
 }
 
 impl fmt::Display for Unanswered {
+    ghost output = { λ why. Some (words why) };
+
     fn fmt<W: fmt::Write>(&self, f: &mut fmt::Formatter<W>) -> fmt::Result {
         f.write_str(match self {
             Unanswered::Absent => "the page does not show the start",
             Unanswered::Refused(Refusal::SizeOutside) => "the cells make no page",
             Unanswered::Refused(Refusal::KeyOutside) => "the start is not below the number of keys",
             Unanswered::Refused(Refusal::AreaTooSmall) => "the area is too small",
-            Unanswered::Refused(refusal) => return write!(f, "refusal {:02X}", u8::from(*refusal)),
+            Unanswered::Refused(_) => "the question is refused",
         })
     }
 }
 
-// Whether a question from `start`, with an area of so many entries, can be answered. The page is lent and the start is a number: a
-// struct of both would be made anew for each call.
+/// Whether a question from `start`, with an area of so many entries, can be answered, or the first reason why not.
+// The page is lent and the start is a number: a struct of both would be made anew for each call.
 pub fn asked<G: GraphView>(page: &G, start: usize, area: usize) -> Result<(), Unanswered>
     ensures { Refuses (unanswered (G.keys page.now) (G.graph page.now) start area) result }
 {

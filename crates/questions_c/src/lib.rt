@@ -16,6 +16,8 @@ fn byte(answer: Result<(), Unanswered>) -> u8
     }
 }
 
+/// The question `order` over `keys` + `keys` × `keys` cells: answers 0 and writes the keys to `out` and how many they are to `count`, or
+/// answers the byte of the reason why there is no answer and writes neither.
 #[unsafe(no_mangle)]
 pub extern "C" fn questions_order(
     cells: &[u32],
@@ -37,6 +39,8 @@ pub extern "C" fn questions_order(
     }
 }
 
+/// The question `best` by `Total` over `keys` + `keys` × `keys` cells: answers 0 and writes an entry for each key to `out`, or answers the
+/// byte of the reason why there is no answer and leaves `out` as it was.
 #[unsafe(no_mangle)]
 pub extern "C" fn questions_total(cells: &[u32], keys: usize, start: usize, out: &mut [Entry]) -> u8
     ensures answer { result ≡ answer_byte cells.now keys start (length out.old) }
@@ -45,6 +49,8 @@ pub extern "C" fn questions_total(cells: &[u32], keys: usize, start: usize, out:
     byte(questions::questions_total(cells, keys, start, out))
 }
 
+/// The question `best` by `Weakest` over `keys` + `keys` × `keys` cells: answers 0 and writes an entry for each key to `out`, or answers the
+/// byte of the reason why there is no answer and leaves `out` as it was.
 #[unsafe(no_mangle)]
 pub extern "C" fn questions_weakest(
     cells: &[u32],

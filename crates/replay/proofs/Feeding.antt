@@ -1,12 +1,12 @@
 -- Where the first line feed stands.
-use Rattle.std.proofs.Common.{◌≡◌, ℕ, ◌+◌, ◌<◌, ◌≤◌, ◌==◌, true, false, List, [], ◌∷◌, ◌++◌, length, get_or, take, drop, Some, None, Option, is_some, refl, sym, ap, ◌∙◌, arith}
+use Rattle.std.proofs.Common.{◌≡◌, ℕ, ◌+◌, ◌<◌, ◌≤◌, ◌==◌, true, false, List, [], ◌∷◌, ◌++◌, length, get_or, take, drop, Some, None, Option, is_some, is_ok, refl, sym, ap, ◌∙◌, arith}
 use Rattle.std.specs.List.{position, position_or_len}
 use Rattle.std.proofs.lemmas.Bool.Decides.{nat_tests}
 use Rattle.std.proofs.lemmas.List.{length-take-le, take-append-drop, drop_more}
 use Rattle.std.proofs.lemmas.List.Recursion.{is_position_or_len}
 use Rattle.frames.specs.Frames.{frame_in}
 use Rattle.frames.specs.Hex.{digit_of, byte_of, joined, bytes_of}
-use Rattle.replay.specs.Texts.{feed_at}
+use Rattle.session.specs.Texts.{feed_at}
 
 feed_is : (text : List ℕ) → feed_at text ≡ position_or_len (λ b. b == 10) text
 feed_is text = is_position_or_len feed_at (λ b. b == 10) refl (λ x xs. grind (arith, nat_tests)) text
@@ -44,12 +44,12 @@ feed_behind (x ∷ (y ∷ line)) rest e =
     let a = all_there (digit_of x) (digit_of y) (bytes_of line) e in
     rw (digit_no_feed x a.high, digit_no_feed y a.low, feed_behind line rest a.behind) (omega arith)
 
-frame_bytes : (bs : Option (List ℕ)) → is_some (frame_in bs) ≡ true → is_some bs ≡ true
+frame_bytes : (bs : Option (List ℕ)) → is_ok (frame_in bs) ≡ true → is_some bs ≡ true
 frame_bytes None e = cc
 frame_bytes (Some bs) e = refl
 
 -- a line feed behind the digits of a frame is the first
-pub feed_framed : (text : List ℕ) (n : ℕ) → n < length text → get_or text n 0 ≡ 10 → is_some (frame_in (bytes_of (take n text))) ≡ true → n ≡ feed_at text
+pub feed_framed : (text : List ℕ) (n : ℕ) → n < length text → get_or text n 0 ≡ 10 → is_ok (frame_in (bytes_of (take n text))) ≡ true → n ≡ feed_at text
 feed_framed text n h e f =
     let parts : take n text ++ (10 ∷ drop (n + 1) text) ≡ text =
     ap (λ c. take n text ++ (c ∷ drop (n + 1) text)) (sym e) ∙ ap (λ zs. take n text ++ zs) (sym (drop_more text n 0 h)) ∙ take-append-drop n text in

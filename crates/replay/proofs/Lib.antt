@@ -1,3 +1,3 @@
 mod Feeding
-mod Putting
+mod Opened
 mod Replaying

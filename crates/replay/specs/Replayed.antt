@@ -1,47 +1,43 @@
--- A text replied to line by line, into an area.
-use Rattle.std.specs.Prelude.{◌≡◌, ℕ, ◌+◌, ◌<◌, ◌≤◌, ◌⊎◌, List, [], ◌++◌, length, take, drop, Some, None, Option}
+-- A text replied to line by line, into an area, and what the memory then holds.
+use Rattle.std.specs.Prelude.{◌≡◌, ℕ, ◌≤◌, ◌⊎◌, List, [], length, Some, None, Option}
+use Rattle.layout.specs.declared.sizes.Sizes.{Sizes}
 use Rattle.frames.specs.Frames.{frame_in}
 use Rattle.frames.specs.Hex.{bytes_of}
-use Rattle.frames.specs.declared.reply.Reply.{Reply}
-use Rattle.session.specs.Answers.{Replies}
-use Rattle.session.specs.Desks.{Session}
-use Rattle.session.specs.Lines.{fed_line}
-use Rattle.replay.specs.Texts.{line_of, behind_line}
+use Rattle.frames.specs.Areas.{Put}
+use Rattle.stepper.specs.Lent.{fresh_state}
+use Rattle.session.specs.Sessions.{SessionState, SessionState.Shut, SessionState.Running, cells_of}
+use Rattle.session.specs.Texts.{line_of}
+use Rattle.session.specs.Served.{Served, NoRoom}
 
--- a text written from a place on, to its end at n; what stands in front and behind stays
-pub record Put (at : ℕ) (text old new : List ℕ) (n : ℕ) : Type 0 where
-  pub grows : at ≤ n
-  pub within : n ≤ length new
-  pub front : take n new ≡ take at old ++ text
-  pub behind : drop n new ≡ drop n old
-
--- a text written from a place on, to its end; where it does not fit whole, nothing
-abbrev pub PutWhole : ℕ → List ℕ → List ℕ → List ℕ → Option ℕ → Type 0
-PutWhole at text old new None = (new ≡ old) × (length old < at + length text)
-PutWhole at text old new (Some n) = Put at text old new n
-
--- the reply to the first line of a text, and the session after it
-abbrev pub LineReplies : Session → List ℕ → Reply → Session → Type 0
-LineReplies d text r e = Replies d (frame_in (bytes_of (line_of text))) r e
-
--- From a session and a text: what is left of the text, what has been written, and the session, after some lines.
-pub data Replayed (d : Session) (text : List ℕ) : List ℕ → List ℕ → Session → Type 0 where
-  nothing_yet : Replayed d text text [] d
-  one_more : (rest out : List ℕ) (e f : Session) (r : Reply) → Replayed d text rest out e → 1 ≤ length rest → LineReplies e rest r f → Replayed d text (behind_line rest) (out ++ fed_line r) f
-
--- the next reply does not fit behind the first n bytes of an area
-pub record NoRoom (d : Session) (rest : List ℕ) (n size : ℕ) : Type 0 where
-  pub reply : Reply
-  pub session : Session
+-- the reply to the next line does not fit behind the first n bytes of an area
+pub record Unfit (d : SessionState) (rest : List ℕ) (n size : ℕ) : Type 0 where
   pub some : 1 ≤ length rest
-  pub replies : LineReplies d rest reply session
-  pub full : size < n + length (fed_line reply)
+  pub full : NoRoom d (frame_in (bytes_of (line_of rest))) n size
 
--- the first n bytes of the area are the replies to the lines of a text, up to its end or to the first that does not fit
-pub record Written (d : Session) (text old new : List ℕ) (n : ℕ) : Type 0 where
+-- some lines on: their replies are in the area from a place to n, and the session is that after them
+pub record Through (d : SessionState) (text old new : List ℕ) (at n : ℕ) (rest : List ℕ) (d' : SessionState) : Type 0 where
+  pub written : List ℕ
+  pub served : Served d text rest written d'
+  pub put : Put at written old new n
+
+-- The lines of a text up to its end, or to the first whose reply does not fit: no line without a reply is carried out.
+pub record Replayed (d : SessionState) (text old new : List ℕ) (at n : ℕ) (d' : SessionState) : Type 0 where
   pub rest : List ℕ
-  pub session : Session
-  pub within : n ≤ length new
-  pub replayed : Replayed d text rest (take n new) session
-  pub behind : drop n new ≡ drop n old
-  pub ended : (rest ≡ []) ⊎ NoRoom session rest n (length new)
+  pub through : Through d text old new at n rest d'
+  pub ended : (rest ≡ []) ⊎ Unfit d' rest n (length new)
+
+-- a replay over a memory: nothing is open where it begins, and the cells are then those of the session in which it ended
+pub record Replays (before text old new : List ℕ) (n : ℕ) (after : List ℕ) : Type 0 where
+  pub session : SessionState
+  pub replayed : Replayed (Shut before) text old new 0 n session
+  pub cells : after ≡ cells_of session
+
+-- nothing is open over the cells, or a run of these sizes that was just opened
+abbrev pub opened_or : List ℕ → Option Sizes → SessionState
+opened_or cells None = Shut cells
+opened_or cells (Some z) = Running (fresh_state cells z)
+
+-- the lines of a text up to one that opens a run, or all of them
+abbrev pub Until : List ℕ → List ℕ → List ℕ → List ℕ → ℕ → List ℕ → List ℕ → Option Sizes → Type 0
+Until cells text old new n rest cells' None = Replayed (Shut cells) text old new 0 n (Shut cells')
+Until cells text old new n rest cells' (Some z) = Through (Shut cells) text old new 0 n rest (Running (fresh_state cells' z))

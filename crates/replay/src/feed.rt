@@ -3,10 +3,10 @@ ghost use Rattle.std.specs.Prelude.{◌≡◌, ◌==◌};
 ghost use Rattle.std.specs.List.{position};
 ghost use Rattle.frames.specs.Frames.{frame_in};
 ghost use Rattle.frames.specs.Hex.{bytes_of};
-ghost use Rattle.replay.specs.Texts.{line_of, behind_line};
+ghost use Rattle.session.specs.Texts.{line_of, behind_line};
 
-use frames::{Frame, parse};
-use session::lines::LINE_FEED;
+use codes::Refusal;
+use frames::{Frame, LINE_FEED, parse};
 
 // Where the first line feed stands.
 fn feed(text: &[u8]) -> Option<usize>
@@ -26,8 +26,8 @@ fn split(text: &[u8]) -> (&[u8], &[u8])
     }
 }
 
-// The frame that the first line is, or none, and what stands behind the line.
-pub fn first(text: &[u8]) -> (Option<Frame>, &[u8])
+// The frame that the first line is, or its refusal, and what stands behind the line.
+pub(crate) fn first(text: &[u8]) -> (Result<Frame, Refusal>, &[u8])
     ensures frame { result.0 ≡ frame_in (bytes_of (line_of text.now)) }
     ensures rest { result.1.now ≡ behind_line text.now }
 {
@@ -40,7 +40,7 @@ pub fn first(text: &[u8]) -> (Option<Frame>, &[u8])
     };
     if n < text.len() && text[n] == LINE_FEED {
         let frame = parse(&text[..n]);
-        if frame.is_some() {
+        if frame.is_ok() {
             return (frame, &text[n + 1..]);
         }
     }

@@ -1,8 +1,9 @@
 // A whole schedule in one call, over any cell memory, into an area of bytes.
 #![tactic(auto)]
 
+mod closed;
 mod feed;
-mod put;
+mod open;
 mod schedule;
 
 pub use schedule::replay;

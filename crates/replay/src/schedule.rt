@@ -1,38 +1,24 @@
 // Replies to the lines of a text.
-ghost use Rattle.session.specs.Desks.{Session.Shut as Waiting};
-ghost use Rattle.replay.specs.Replayed.{Written};
+ghost use Rattle.std.specs.Prelude.{◌≡◌};
+ghost use Rattle.replay.specs.Replayed.{Replays};
 
-use crate::feed::first;
-use crate::put::put;
+use crate::closed::replay_closed;
+use crate::open::replay_open;
 use cells::CellMemory;
-use session::answer::{answer_frame, answer_open};
-use session::desk::Desk;
+use stepper::run::Run;
 
-// Writes a reply line for each line of the text, and says how many bytes were written. A reply that does not fit whole is
-// not written and ends the replay.
-pub fn replay<M: CellMemory + Drop>(memory: M, text: &[u8], out: &mut [u8]) -> usize
-    ensures { Written (Waiting (M.cells memory)) text.now out.old out.new result }
+/// Writes a reply line for each line of the text into `out`, in order, and answers how many bytes it wrote. Nothing is open at
+/// its start, whatever a call before it left in the memory. A line whose reply does not fit whole is not carried out and ends
+/// the replay: the cells are those after the lines whose replies were written.
+pub fn replay<M: CellMemory>(memory: &mut M, text: &[u8], out: &mut [u8]) -> usize
+    ensures replays { Replays (M.cells memory.old) text.now out.old out.new result (M.cells memory.new) }
+    ensures spare { M.spare memory.new ≡ M.spare memory.old }
+    ensures name { M.name memory.new ≡ M.name memory.old }
 {
-    let mut desk = Desk::Closed(memory);
-    let mut rest = text;
-    let mut n = 0;
-    // A loop over `split_inclusive` in a generic function gets no proof.
-    while !rest.is_empty() {
-        let (frame, behind) = first(rest);
-        // A run answers where it is, since moving it for each line costs time.
-        let reply = if let Desk::Open(run) = &mut desk {
-            answer_open(run, frame)
-        } else {
-            let answered = answer_frame(desk, frame);
-            desk = answered.desk;
-            answered.reply
-        };
-        // What was written so far is the answer, so no `?`.
-        let Some(end) = put(out, n, reply) else {
-            return n;
-        };
-        n = end;
-        rest = behind;
-    }
-    n
+    let (n, opened, rest) = replay_closed(memory, text, out);
+    let Some(sizes) = opened else {
+        return n;
+    };
+    let mut run = Run::over(memory, sizes);
+    replay_open(&mut run, rest, out, n)
 }

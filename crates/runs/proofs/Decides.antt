@@ -11,16 +11,14 @@ use Rattle.places.specs.declared.place.Change.{Change}
 use Rattle.places.specs.declared.place.Change.TheVariants as change
 use Rattle.places.specs.Touches.{head_kind, change_head}
 use Rattle.laws.specs.Fits.{FitChange}
-use Rattle.laws.specs.Sound.{RunsSound, RunsKeepLaws}
-use Rattle.laws.specs.Stamps.{RunsStamp}
-use Rattle.runs.specs.Runs.{Run}
+use Rattle.runs.specs.Runs.{RunInTime}
 use Rattle.runs.specs.Views.{head_at, LinkedAt}
-use Rattle.runs.specs.Steps.{Links, RunsStep}
-use Rattle.runs.specs.Times.{RunsLast}
-use Rattle.runs.specs.Reasons.{RunsKnow}
-use Rattle.runs.proofs.Links.{linked_is_row}
+use Rattle.runs.specs.Steps.{LinkStepOfKind}
 use Rattle.runs.proofs.Events.{link_fits, key_in}
 use Rattle.runs.proofs.EdgeEvents.{head_is_linked}
+use Rattle.runs.proofs.Steps.{runs_step as step}
+use Rattle.runs.proofs.Times.{runs_last as last}
+use Rattle.laws.proofs.Owned.{linked_row}
 
 -- some number below n has a property, or none has
 abbrev Below : ℕ → (ℕ → Type 0) → Type 0
@@ -35,7 +33,7 @@ below_or P d (suc n) =
     (below_or P d n))
     (d n)
 
-module _ (R : Run) (k : ℕ) (r : ℕ) where
+module _ (R : RunInTime) (k : ℕ) (r : ℕ) where
   -- a row is the row of a head, or of none
   abbrev IsHead : Kind → Type 0
   IsHead c = (h : Head) × Named R.sizes (cell.Head h) × (head_kind h ≡ c) × (head_at R k h ≡ r)
@@ -62,18 +60,18 @@ module _ (R : Run) (k : ℕ) (r : ℕ) where
       ⊎_elim (λ (x : Below R.sizes.keys Pairs). inl (head.Edge x.0 x.2.0, (x.1, x.2.1), refl, x.2.2)) (λ (x : ¬ (Below R.sizes.keys Pairs)). inr (λ y. x (edge_at y.0 y.1 y.2 y.3)))
       (below_or Pairs (λ i. below_or (λ j. head_at R k (head.Edge i j) ≡ r) (λ j. cases_eq (head_at R k (head.Edge i j)) r) R.sizes.keys) R.sizes.keys)
 
-module _ (sound : RunsSound) (keep : RunsKeepLaws) (stamp : RunsStamp) (step : RunsStep) (last : RunsLast) (know : RunsKnow) (R : Run) where
+module _ (R : RunInTime) where
   -- the row of a head is linked
   at_head_linked : (k : ℕ) (c : Kind) (r : ℕ) → 0 < r → IsHead R k r c → LinkedAt R k c r
   at_head_linked k c r l x =
-      subst (λ (u : Kind). LinkedAt R k u r) x.2 (subst (LinkedAt R k (head_kind x.0)) x.3 (head_is_linked sound keep stamp step last know R k x.0 x.1 (subst (λ n. 0 < n) (sym x.3) l)))
+      subst (λ (u : Kind). LinkedAt R k u r) x.2 (subst (LinkedAt R k (head_kind x.0)) x.3 (head_is_linked R k x.0 x.1 (subst (λ n. 0 < n) (sym x.3) l)))
 
   change_in : (k : ℕ) (d : Change) → FitChange (R.state k) d → Named R.sizes (cell.Head (change_head d))
-  change_in k (change.Vertex i) f = key_in sound keep stamp step last know R k i f
-  change_in k (change.Edge b) f = (key_in sound keep stamp step last know R k b.pair.from f.keys.0, key_in sound keep stamp step last know R k b.pair.to f.keys.1)
+  change_in k (change.Vertex i) f = key_in R k i f
+  change_in k (change.Edge b) f = (key_in R k b.pair.from f.keys.0, key_in R k b.pair.to f.keys.1)
 
-  new_is_head : (k : ℕ) (c : Kind) (r : ℕ) → Links R k c r → IsHead R (suc k) r c
-  new_is_head k c r m = (change_head m.change, change_in k m.change (link_fits sound keep stamp step last know R m.step.turn), m.kind, m.step.head)
+  new_is_head : (k : ℕ) (c : Kind) (r : ℕ) → LinkStepOfKind R k c r → IsHead R (suc k) r c
+  new_is_head k c r m = (change_head m.change, change_in k m.change (link_fits R m.step.turn), m.kind, m.step.head)
 
   rows_or : (k : ℕ) (c : Kind) (r : ℕ) → 0 < r → LinkedAt R k c r ⊎ ¬ (LinkedAt R k c r)
   rows_or zero c r l =
@@ -82,9 +80,9 @@ module _ (sound : RunsSound) (keep : RunsKeepLaws) (stamp : RunsStamp) (step : R
       ⊎_elim (λ (o : LinkedAt R k c r). inl ((step R k).linked c r o))
       (λ (n : ¬ (LinkedAt R k c r)).
       ⊎_elim (λ (x : IsHead R (suc k) r c). inl (at_head_linked (suc k) c r l x))
-      (λ (x : ¬ (IsHead R (suc k) r c)). inr (λ o. ⊎_elim (λ (y : LinkedAt R k c r). n y) (λ (y : Links R k c r). x (new_is_head k c r y)) ((step R k).news c r o)))
+      (λ (x : ¬ (IsHead R (suc k) r c)). inr (λ o. ⊎_elim (λ (y : LinkedAt R k c r). n y) (λ (y : LinkStepOfKind R k c r). x (new_is_head k c r y)) ((step R k).news c r o)))
       (is_head_or R (suc k) r c))
       (rows_or k c r l)
 
   pub linked_or : (k : ℕ) (c : Kind) (r : ℕ) → LinkedAt R k c r ⊎ ¬ (LinkedAt R k c r)
-  linked_or k c r = ⊎_elim (λ (l : 0 < r). rows_or k c r l) (λ (l : r ≤ 0). inr (λ o. omega (arith, (linked_is_row (R.state k) c r o).0))) (cases_lt 0 r)
+  linked_or k c r = ⊎_elim (λ (l : 0 < r). rows_or k c r l) (λ (l : r ≤ 0). inr (λ o. omega (arith, (linked_row (R.state k) c r o).0))) (cases_lt 0 r)

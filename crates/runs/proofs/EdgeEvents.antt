@@ -13,20 +13,19 @@ use Rattle.places.specs.declared.place.Change.TheVariants as change
 use Rattle.layout.specs.Layout.{Named}
 use Rattle.layout.specs.declared.sizes.Sizes.{Sizes}
 use Rattle.places.specs.Touches.{head_kind, change_head, change_kind}
-use Rattle.laws.specs.Sound.{RunsSound, RunsKeepLaws}
-use Rattle.laws.specs.Stamps.{RunsStamp}
-use Rattle.runs.specs.Runs.{Run}
+use Rattle.runs.specs.Runs.{RunInTime}
 use Rattle.runs.specs.Views.{number_at, head_at, LinkedAt}
-use Rattle.runs.specs.Steps.{HeadSteps, HeadSteps.stays, HeadSteps.moves, RunsStep}
-use Rattle.runs.specs.Times.{Past, LinkedBy, RunsLast}
-use Rattle.runs.specs.Known.{Stamped, Dead, Living, Has, BoundTo, Over, KnownLink, LinkEvent}
-use Rattle.runs.specs.Reasons.{RunsKnow}
+use Rattle.runs.specs.Steps.{HeadSteps, HeadSteps.stays, HeadSteps.moves}
+use Rattle.runs.specs.Times.{Before, LinkStepAtHead}
+use Rattle.runs.specs.Known.{StampedAt, Dead, Living, Has, BoundTo, Over, KnownLink, LinkEvent}
 use Rattle.runs.proofs.Times.{kept_from}
 use Rattle.runs.proofs.Heads.{link_event}
-use Rattle.runs.proofs.Links.{linked_is_row}
 use Rattle.runs.proofs.Events.{worker_knows, edge_keys, linked_later, stamped_kept, dead_kept, dead_not, linked_from, living_key, outlived, old_living}
+use Rattle.runs.proofs.Steps.{runs_step as step}
+use Rattle.runs.proofs.Times.{runs_last as last}
+use Rattle.laws.proofs.Owned.{linked_row}
 
-module _ (sound : RunsSound) (keep : RunsKeepLaws) (stamp : RunsStamp) (step : RunsStep) (last : RunsLast) (know : RunsKnow) (R : Run) where
+module _ (R : RunInTime) where
   -- what an edge row is bound to
   pub edge_bound : {p b e : ℕ} {d : Bound} → LinkEvent R p b (change.Edge d) e → (k : ℕ) → p < k → BoundTo R k e d
   edge_bound {p} {b} {e} {d} ev k l =
@@ -61,9 +60,9 @@ module _ (sound : RunsSound) (keep : RunsKeepLaws) (stamp : RunsStamp) (step : R
   pub head_is_linked : (t : ℕ) (h : Head) → Named R.sizes (cell.Head h) → 0 < head_at R t h → LinkedAt R t (head_kind h) (head_at R t h)
   head_is_linked t h n l =
       ⊎_elim
-      (λ (e : head_at R t h ≡ head_at R 0 h). subst (LinkedAt R t (head_kind h)) (sym e) (linked_later sound keep stamp step last know R 0 t (head_kind h) (head_at R 0 h) (omega arith) ((last R).old_head h n (omega arith))))
-      (λ (p : Past t (λ p. LinkedBy R p h (head_at R t h))).
-      subst (λ (g : Head). LinkedAt R t (head_kind g) (head_at R t h)) p.held.head (linked_later sound keep stamp step last know R (suc p.time) t (change_kind p.held.change) (head_at R t h) p.before p.held.step.linked))
+      (λ (e : head_at R t h ≡ head_at R 0 h). subst (LinkedAt R t (head_kind h)) (sym e) (linked_later R 0 t (head_kind h) (head_at R 0 h) (omega arith) ((last R).old_head h n (omega arith))))
+      (λ (p : Before t (λ p. LinkStepAtHead R p h (head_at R t h))).
+      subst (λ (g : Head). LinkedAt R t (head_kind g) (head_at R t h)) p.held.head (linked_later R (suc p.time) t (change_kind p.held.change) (head_at R t h) p.before p.held.step.linked))
       ((last R).head t h n l)
 
   -- a change at the head of a pair is of an edge
@@ -78,12 +77,12 @@ module _ (sound : RunsSound) (keep : RunsKeepLaws) (stamp : RunsStamp) (step : R
   pair_to e = cc
 
   edge_pos : (t e : ℕ) → LinkedAt R t Edge e → 0 < e
-  edge_pos t e l = (linked_is_row (R.state t) Edge e l).0
+  edge_pos t e l = (linked_row (R.state t) Edge e l).0
 
   -- while an edge row has neither ended nor is bound to a dead row, it stays the head of its pair
   pub data Still (t : ℕ) (h : Head) (e : ℕ) (d : Bound) : Type 0 where
     heads : head_at R t h ≡ e → Still t h e d
-    ends : Stamped R t Edge Del e → Still t h e d
+    ends : StampedAt R t Edge Del e → Still t h e d
     lone : Dead R t d.source ⊎ Dead R t d.target → Still t h e d
 
   -- an edge row that stands as head of its pair since time u, at which it is new; before that its vertices were alive
@@ -105,11 +104,11 @@ module _ (sound : RunsSound) (keep : RunsKeepLaws) (stamp : RunsStamp) (step : R
   since_link {p} {b} {e} {d} ev =
       let v = binds_of ev in
       record {
-        keys = edge_keys sound keep stamp step last know R ev;
+        keys = edge_keys R ev;
         row = ev.step.linked;
         head = ev.step.head;
         bound = edge_bound ev (suc p) (omega arith);
-        new = λ k l. linked_from sound keep stamp step last know R ev k l;
+        new = λ k l. linked_from R ev k l;
         source_time = v.second;
         source_by = omega (arith, v.between, v.after);
         source = v.source;
@@ -144,8 +143,8 @@ module _ (sound : RunsSound) (keep : RunsKeepLaws) (stamp : RunsStamp) (step : R
           let x = R.clean.joined i j a.0 a.1 (omega (arith, pos)) in
           let s : number_at R 0 (cell.Source e) ≡ head_at R 0 (head.Vertex i) = subst (λ q. number_at R 0 (cell.Source q) ≡ head_at R 0 (head.Vertex i)) z x.source in
           let t : number_at R 0 (cell.Target e) ≡ head_at R 0 (head.Vertex j) = subst (λ q. number_at R 0 (cell.Target q) ≡ head_at R 0 (head.Vertex j)) z x.target in
-          let from = old_living sound keep stamp step last know R i _ n.0 (sym s) (omega (arith, x.from)) in
-          let to = old_living sound keep stamp step last know R j _ n.1 (sym t) (omega (arith, x.to)) in
+          let from = old_living R i _ n.0 (sym s) (omega (arith, x.from)) in
+          let to = old_living R j _ n.1 (sym t) (omega (arith, x.to)) in
           record {
             from = i;
             to = j;
@@ -179,7 +178,7 @@ module _ (sound : RunsSound) (keep : RunsKeepLaws) (stamp : RunsStamp) (step : R
     pos = edge_pos s e v.row
 
     linked_since : (j : ℕ) → s ≤ j → LinkedAt R j Edge e
-    linked_since j a = linked_later sound keep stamp step last know R s j Edge e a v.row
+    linked_since j a = linked_later R s j Edge e a v.row
 
     pub bound_since : (k : ℕ) → s ≤ k → BoundTo R k e d
     bound_since k l = let laws = (last R).times s k l in (laws.source e v.row ∙ v.bound.0, laws.target e v.row ∙ v.bound.1)
@@ -193,32 +192,32 @@ module _ (sound : RunsSound) (keep : RunsKeepLaws) (stamp : RunsStamp) (step : R
         let source : Living R u.second d.pair.from c.source = subst (λ i. Living R u.second i c.source) (pair_from x) u.source in
         let target : Living R u.third d.pair.to c.target = subst (λ i. Living R u.third i c.target) (pair_to x) u.target in
         ⊎_elim
-        (λ (q : d.source ≡ c.source). inr (dead_kept sound keep stamp step last know R u.third j d.target (omega (arith, u.after))
-        (outlived sound keep stamp step last know R d.pair.to d.target c.target v.target_time u.third keys.1 (omega (arith, o, u.before, u.between, v.target_by)) v.target target (λ r. n (q, r)))))
-        (λ (q : ¬ (d.source ≡ c.source)). inl (dead_kept sound keep stamp step last know R u.second j d.source (omega (arith, u.between, u.after))
-        (outlived sound keep stamp step last know R d.pair.from d.source c.source v.source_time u.second keys.0 (omega (arith, o, u.before, v.source_by)) v.source source q)))
+        (λ (q : d.source ≡ c.source). inr (dead_kept R u.third j d.target (omega (arith, u.after))
+        (outlived R d.pair.to d.target c.target v.target_time u.third keys.1 (omega (arith, o, u.before, u.between, v.target_by)) v.target target (λ r. n (q, r)))))
+        (λ (q : ¬ (d.source ≡ c.source)). inl (dead_kept R u.second j d.source (omega (arith, u.between, u.after))
+        (outlived R d.pair.from d.source c.source v.source_time u.second keys.0 (omega (arith, o, u.before, v.source_by)) v.source source q)))
         (cases_eq d.source c.source)
 
     over : (j : ℕ) → s ≤ j → (c : Bound) (h : ℕ) → head.Edge c.pair.from c.pair.to ≡ pair → Binds j c → head_at R j pair ≡ e → h ≡ e → Over R j h c → Still (suc j) pair e d
     over j a c h x u f q (inl z) = absurd (omega (arith, pos))
     over j a c h x u f q (inr z) = go z.why
       where
-        go : Stamped R j Edge Del h ⊎ ¬ (BoundTo R j h c) → Still (suc j) pair e d
-        go (inl y) = ends (stamped_kept sound keep stamp step last know R j (suc j) Edge Del e (omega arith) (linked_since j a) (subst (Stamped R j Edge Del) q y))
+        go : StampedAt R j Edge Del h ⊎ ¬ (BoundTo R j h c) → Still (suc j) pair e d
+        go (inl y) = ends (stamped_kept R j (suc j) Edge Del e (omega arith) (linked_since j a) (subst (StampedAt R j Edge Del) q y))
         go (inr y) =
             let i = bound_since j a in
             let n : ¬ ((d.source ≡ c.source) × (d.target ≡ c.target)) = λ k. y (subst (λ g. BoundTo R j g c) (sym q) (i.0 ∙ k.0, i.1 ∙ k.1)) in
-            ⊎_elim (λ (k : Dead R j d.source). lone (inl (dead_kept sound keep stamp step last know R j (suc j) d.source (omega arith) k))) (λ (k : Dead R j d.target). lone (inr (dead_kept sound keep stamp step last know R j (suc j) d.target (omega arith) k)))
+            ⊎_elim (λ (k : Dead R j d.source). lone (inl (dead_kept R j (suc j) d.source (omega arith) k))) (λ (k : Dead R j d.target). lone (inr (dead_kept R j (suc j) d.target (omega arith) k)))
             (other j a c x u f n)
 
     still_step : (j : ℕ) → s ≤ j → Still j pair e d → HeadSteps R j pair (head_at R (suc j) pair) → Still (suc j) pair e d
-    still_step j a (ends z) h = ends (stamped_kept sound keep stamp step last know R j (suc j) Edge Del e (omega arith) (linked_since j a) z)
-    still_step j a (lone (inl z)) h = lone (inl (dead_kept sound keep stamp step last know R j (suc j) d.source (omega arith) z))
-    still_step j a (lone (inr z)) h = lone (inr (dead_kept sound keep stamp step last know R j (suc j) d.target (omega arith) z))
+    still_step j a (ends z) h = ends (stamped_kept R j (suc j) Edge Del e (omega arith) (linked_since j a) z)
+    still_step j a (lone (inl z)) h = lone (inl (dead_kept R j (suc j) d.source (omega arith) z))
+    still_step j a (lone (inr z)) h = lone (inr (dead_kept R j (suc j) d.target (omega arith) z))
     still_step j a (heads f) (stays g) = heads (g ∙ f)
     still_step j a (heads f) (moves c x st) =
         let k = edge_change c pair x refl in
-        let fv = link_event step last R (suc j) (worker_knows sound keep stamp step last know R (suc j)) j (omega arith) c _ st in
+        let fv = link_event R (suc j) (worker_knows R (suc j)) j (omega arith) c _ st in
         let gv : LinkEvent R j fv.0 (change.Edge k.0) (head_at R (suc j) pair) = subst (λ y. LinkEvent R j fv.0 y (head_at R (suc j) pair)) k.1 fv.1 in
         let y : head.Edge k.0.pair.from k.0.pair.to ≡ pair = ap change_head (sym k.1) ∙ x in
         over j a k.0 _ y (binds_of gv) f (ap (head_at R j) y ∙ f) gv.why.1
@@ -237,37 +236,37 @@ module _ (sound : RunsSound) (keep : RunsKeepLaws) (stamp : RunsStamp) (step : R
     same_pair : head.Edge d.pair.from d.pair.to ≡ newer
     same_pair =
         let k = v.keys in
-        let m = edge_keys sound keep stamp step last know R fv in
-        ap₂ head.Edge (living_key sound keep stamp step last know R k.0 m.0 v.source (subst (Living R u.second c.pair.from) (sym s) u.source)) (living_key sound keep stamp step last know R k.1 m.1 v.target (subst (Living R u.third c.pair.to) (sym t) u.target))
+        let m = edge_keys R fv in
+        ap₂ head.Edge (living_key R k.0 m.0 v.source (subst (Living R u.second c.pair.from) (sym s) u.source)) (living_key R k.1 m.1 v.target (subst (Living R u.third c.pair.to) (sym t) u.target))
 
     -- where the newer was linked over the older
-    over_older : (h : ℕ) → h ≡ e → Over R q h c → Stamped R q Edge Del e
+    over_older : (h : ℕ) → h ≡ e → Over R q h c → StampedAt R q Edge Del e
     over_older h x (inl z) = absurd (omega (arith, edge_pos p e v.row))
     over_older h x (inr z) =
         let i = bound_since v q l in
-        ⊎_elim (λ (y : Stamped R q Edge Del h). subst (Stamped R q Edge Del) x y) (λ (y : ¬ (BoundTo R q h c)). absurd (y (subst (λ g. BoundTo R q g c) (sym x) (i.0 ∙ s, i.1 ∙ t)))) z.why
+        ⊎_elim (λ (y : StampedAt R q Edge Del h). subst (StampedAt R q Edge Del) x y) (λ (y : ¬ (BoundTo R q h c)). absurd (y (subst (λ g. BoundTo R q g c) (sym x) (i.0 ∙ s, i.1 ∙ t)))) z.why
 
-    at_read : p ≤ u.first → Still u.first (head.Edge d.pair.from d.pair.to) e d → Stamped R q Edge Del e
+    at_read : p ≤ u.first → Still u.first (head.Edge d.pair.from d.pair.to) e d → StampedAt R q Edge Del e
     at_read m (heads z) = over_older (head_at R q newer) (sym u.read ∙ ap (head_at R u.first) (sym same_pair) ∙ z) fv.why.1
-    at_read m (ends z) = stamped_kept sound keep stamp step last know R u.first q Edge Del e (omega (arith, u.before, u.between, u.after)) (linked_since v u.first m) z
-    at_read m (lone (inl z)) = absurd (dead_not sound keep stamp step last know R u.second c.source (dead_kept sound keep stamp step last know R u.first u.second c.source (omega (arith, u.before)) (subst (Dead R u.first) s z)) u.source.alive)
-    at_read m (lone (inr z)) = absurd (dead_not sound keep stamp step last know R u.third c.target (dead_kept sound keep stamp step last know R u.first u.third c.target (omega (arith, u.before, u.between)) (subst (Dead R u.first) t z)) u.target.alive)
+    at_read m (ends z) = stamped_kept R u.first q Edge Del e (omega (arith, u.before, u.between, u.after)) (linked_since v u.first m) z
+    at_read m (lone (inl z)) = absurd (dead_not R u.second c.source (dead_kept R u.first u.second c.source (omega (arith, u.before)) (subst (Dead R u.first) s z)) u.source.alive)
+    at_read m (lone (inr z)) = absurd (dead_not R u.third c.target (dead_kept R u.first u.third c.target (omega (arith, u.before, u.between)) (subst (Dead R u.first) t z)) u.target.alive)
 
     -- where the head was read before the older was linked
-    since : (head_at R q newer ≡ head_at R p newer) ⊎ Past q (λ j. (p ≤ j) × LinkedBy R j newer (head_at R q newer)) → u.first < p → Stamped R q Edge Del e
+    since : (head_at R q newer ≡ head_at R p newer) ⊎ Before q (λ j. (p ≤ j) × LinkStepAtHead R j newer (head_at R q newer)) → u.first < p → StampedAt R q Edge Del e
     since (inl z) m = over_older (head_at R q newer) (z ∙ ap (head_at R p) (sym same_pair) ∙ v.head) fv.why.1
     since (inr z) m =
-        let k = edge_keys sound keep stamp step last know R fv in
+        let k = edge_keys R fv in
         let st = z.held.1 in
         let row : LinkedAt R (suc z.time) (change_kind st.change) (head_at R q newer) = st.step.linked in
         let kind : change_kind st.change ≡ Edge = ap head_kind st.head in
         let high : 0 < head_at R q newer = edge_pos (suc z.time) _ (subst (λ (y : Kind). LinkedAt R (suc z.time) y (head_at R q newer)) kind row) in
         let first_row : LinkedAt R u.first Edge (head_at R q newer) = subst (LinkedAt R u.first Edge) u.read (head_is_linked u.first newer k (subst (λ y. 0 < y) (sym u.read) high)) in
-        let low : LinkedAt R z.time Edge (head_at R q newer) = linked_later sound keep stamp step last know R u.first z.time Edge _ (omega (arith, z.held.0)) first_row in
+        let low : LinkedAt R z.time Edge (head_at R q newer) = linked_later R u.first z.time Edge _ (omega (arith, z.held.0)) first_row in
         absurd (st.step.fresh (subst (λ (y : Kind). LinkedAt R z.time y (head_at R q newer)) (sym kind) low))
 
-    pub edge_order : Stamped R q Edge Del e
+    pub edge_order : StampedAt R q Edge Del e
     edge_order =
-        ⊎_elim (λ (m : u.first < p). since (((last R).times p q l).head newer (edge_keys sound keep stamp step last know R fv)) m)
+        ⊎_elim (λ (m : u.first < p). since (((last R).times p q l).head newer (edge_keys R fv)) m)
         (λ (m : p ≤ u.first). at_read m (still v u.first m))
         (cases_lt u.first p)

@@ -20,25 +20,27 @@ use Rattle.places.specs.declared.place.Stage.TheVariants.{Swap}
 use Rattle.places.specs.Touches.{head_kind, change_kind, settled_field}
 use Rattle.layout.specs.Layout.{Named}
 use Rattle.layout.specs.declared.names.Head.{Head}
-use Rattle.stepper.specs.declared.request.Request.TheVariants.{Turn}
+use Rattle.machine.specs.declared.request.Request.TheVariants.{Turn}
 use Rattle.laws.specs.Fits.{FitChange, FitPlace}
-use Rattle.laws.specs.Sound.{RunsSound, RunsKeepLaws}
-use Rattle.laws.specs.Stamps.{RunsStamp}
-use Rattle.runs.specs.Runs.{Run, history_at}
+use Rattle.runs.specs.Runs.{RunInTime, history_at}
 use Rattle.runs.specs.Views.{clock_at, head_at, mark_at, place_at, LinkedAt}
 use Rattle.runs.specs.Seen.{open_at}
-use Rattle.runs.specs.Steps.{TurnAt, MarkSteps, MarkSteps.same, MarkSteps.settled, MarkSteps.ended, RunsStep}
-use Rattle.runs.specs.Times.{Past, LinkedBy, RunsLast}
-use Rattle.runs.specs.Known.{Stamped, Dead, FromClock, Living, LinkEvent, EndEvent, Known}
-use Rattle.runs.specs.Reasons.{WorkerKnows, WorkerKnows.free, WorkerKnows.busy, RunsKnow}
+use Rattle.runs.specs.Steps.{TurnAt, MarkSteps, MarkSteps.same, MarkSteps.settled, MarkSteps.ended}
+use Rattle.runs.specs.Times.{Before, LinkStepAtHead}
+use Rattle.runs.specs.Known.{StampedAt, Dead, FromClock, Living, LinkEvent, EndEvent, Known}
+use Rattle.runs.specs.Reasons.{WorkerKnows, WorkerKnows.free, WorkerKnows.busy}
 use Rattle.runs.proofs.Histories.{traced}
 use Rattle.runs.proofs.Times.{kept_from}
 use Rattle.runs.proofs.Opens.{open_start}
 use Rattle.runs.proofs.Kept.{settled_is, stamped_later, dead_later}
 use Rattle.runs.proofs.Heads.{key_event, row_pos, stays_or_dead}
 use Rattle.runs.proofs.Knows.{fits_at}
+use Rattle.laws.proofs.StampRuns.{runs_stamp as stamp}
+use Rattle.runs.proofs.Steps.{runs_step as step}
+use Rattle.runs.proofs.Times.{runs_last as last}
+use Rattle.runs.proofs.Knows.{runs_know as know}
 
-module _ (sound : RunsSound) (keep : RunsKeepLaws) (stamp : RunsStamp) (step : RunsStep) (last : RunsLast) (know : RunsKnow) (R : Run) where
+module _ (R : RunInTime) where
   pub worker_knows : (N j : ℕ) → j < N → (w : ℕ) → w < R.sizes.workers → WorkerKnows R j w
   worker_knows N j l w b = (know R).workers j w b
 
@@ -52,7 +54,7 @@ module _ (sound : RunsSound) (keep : RunsKeepLaws) (stamp : RunsStamp) (step : R
 
   -- the keys of a change that is linked
   pub link_fits : {k w : ℕ} {d : Change} {h : ℕ} → TurnAt R k w (place.Link d h) → FitChange (R.state k) d
-  link_fits {k} {w} {d} {h} t = let f : FitPlace (R.state k) (place.Link d h) = subst (FitPlace (R.state k)) t.place (fits_at sound keep stamp step last R k w t.within) in f.0
+  link_fits {k} {w} {d} {h} t = let f : FitPlace (R.state k) (place.Link d h) = subst (FitPlace (R.state k)) t.place (fits_at R k w t.within) in f.0
 
   pub key_in : (k i : ℕ) → i < (R.state k).sizes.keys → i < R.sizes.keys
   key_in k i l = subst (λ (z : Sizes). i < z.keys) ((stamp (R.state 0) R.clean (history_at R k) (R.state k) (traced R k)).sizes ∙ R.start) l
@@ -84,7 +86,7 @@ module _ (sound : RunsSound) (keep : RunsKeepLaws) (stamp : RunsStamp) (step : R
   pub begun_kept : (t u : ℕ) (c : Kind) (f : Field) (r : ℕ) → t ≤ u → LinkedAt R t c r → ¬ (mark_at R t c f r ≡ NotEnded) → ¬ (mark_at R u c f r ≡ NotEnded)
   begun_kept t u c f r l = ((last R).times t u l).begun c f r
 
-  pub stamped_kept : (t u : ℕ) (c : Kind) (f : Field) (r : ℕ) → t ≤ u → LinkedAt R t c r → Stamped R t c f r → Stamped R u c f r
+  pub stamped_kept : (t u : ℕ) (c : Kind) (f : Field) (r : ℕ) → t ≤ u → LinkedAt R t c r → StampedAt R t c f r → StampedAt R u c f r
   stamped_kept t u c f r l = stamped_later R t u l ((last R).times t u l) c f r
 
   pub dead_kept : (t u r : ℕ) → t ≤ u → Dead R t r → Dead R u r
@@ -200,11 +202,11 @@ module _ (sound : RunsSound) (keep : RunsKeepLaws) (stamp : RunsStamp) (step : R
   old_apart h g n m k e l = R.clean.apart h g (head_named h n) (head_named g m) k e l
 
   -- a living head was so at the start, or was linked at its key
-  pub living_from : {t i s : ℕ} → i < R.sizes.keys → Living R t i s → (head_at R 0 (head.Vertex i) ≡ s) ⊎ Past t (λ p. (b : ℕ) × LinkEvent R p b (change.Vertex i) s)
+  pub living_from : {t i s : ℕ} → i < R.sizes.keys → Living R t i s → (head_at R 0 (head.Vertex i) ≡ s) ⊎ Before t (λ p. (b : ℕ) × LinkEvent R p b (change.Vertex i) s)
   living_from {t} {i} {s} n v =
       ⊎_elim (λ (e : head_at R t (head.Vertex i) ≡ head_at R 0 (head.Vertex i)). inl (sym e ∙ v.head))
-      (λ (p : Past t (λ p. LinkedBy R p (head.Vertex i) (head_at R t (head.Vertex i)))).
-      let ev = key_event step last R t (worker_knows t) p.time p.before i _ p.held in
+      (λ (p : Before t (λ p. LinkStepAtHead R p (head.Vertex i) (head_at R t (head.Vertex i)))).
+      let ev = key_event R t (worker_knows t) p.time p.before i _ p.held in
       inr (record { time = p.time; before = p.before; held = (ev.0, subst (λ z. LinkEvent R p.time ev.0 (change.Vertex i) z) v.head ev.1) }))
       ((last R).head t (head.Vertex i) n (subst (λ h. 0 < h) (sym v.head) (row_pos R t s v.linked)))
 
@@ -220,7 +222,7 @@ module _ (sound : RunsSound) (keep : RunsKeepLaws) (stamp : RunsStamp) (step : R
       pos : 0 < s
       pos = row_pos R t s v.linked
 
-      go : (head_at R 0 (head.Vertex i) ≡ s) ⊎ Past t (λ p. (b : ℕ) × LinkEvent R p b (change.Vertex i) s) → (head_at R 0 (head.Vertex j) ≡ s) ⊎ Past u (λ p. (b : ℕ) × LinkEvent R p b (change.Vertex j) s) → i ≡ j
+      go : (head_at R 0 (head.Vertex i) ≡ s) ⊎ Before t (λ p. (b : ℕ) × LinkEvent R p b (change.Vertex i) s) → (head_at R 0 (head.Vertex j) ≡ s) ⊎ Before u (λ p. (b : ℕ) × LinkEvent R p b (change.Vertex j) s) → i ≡ j
       go (inl x) (inl y) = head_one (old_apart (head.Vertex i) (head.Vertex j) n m refl (x ∙ sym y) (omega (arith, pos)))
       go (inl x) (inr y) = absurd (old_not_linked Vertex s (old_linked i s n x pos) refl y.held.1)
       go (inr x) (inl y) = absurd (old_not_linked Vertex s (old_linked j s m y pos) refl x.held.1)
@@ -230,7 +232,7 @@ module _ (sound : RunsSound) (keep : RunsKeepLaws) (stamp : RunsStamp) (step : R
   pub outlived : (i r s t u : ℕ) → i < R.sizes.keys → t ≤ u → Living R t i r → Living R u i s → ¬ (r ≡ s) → Dead R u r
   outlived i r s t u n l v w a =
       ⊎_elim (λ (e : head_at R u (head.Vertex i) ≡ r). absurd (a (sym e ∙ w.head))) (λ (d : Dead R u r). d)
-      (stays_or_dead step last R u (worker_knows u) i n r t u (row_pos R t r v.linked) l (omega arith) v.head)
+      (stays_or_dead R u (worker_knows u) i n r t u (row_pos R t r v.linked) l (omega arith) v.head)
 
   -- of two rows of one key, the older was dead before the newer was linked
   pub order_from : (i r u : ℕ) {q a s : ℕ} → i < R.sizes.keys → head_at R u (head.Vertex i) ≡ r → 0 < r → u ≤ q → LinkEvent R q a (change.Vertex i) s → Dead R q r
@@ -238,7 +240,7 @@ module _ (sound : RunsSound) (keep : RunsKeepLaws) (stamp : RunsStamp) (step : R
       ⊎_elim
       (λ (e : head_at R q (head.Vertex i) ≡ r). ⊎_elim (λ (z : head_at R q (head.Vertex i) ≡ 0). absurd (omega arith)) (λ (d : Dead R q (head_at R q (head.Vertex i))). subst (Dead R q) e d) fv.why.1)
       (λ (d : Dead R q r). d)
-      (stays_or_dead step last R q (worker_knows q) i n r u q pos l (omega arith) h)
+      (stays_or_dead R q (worker_knows q) i n r u q pos l (omega arith) h)
 
   pub link_order : {p b i r q a s : ℕ} → LinkEvent R p b (change.Vertex i) r → LinkEvent R q a (change.Vertex i) s → p < q → Dead R q r
   link_order {p} {b} {i} {r} {q} {a} {s} ev fv l = order_from i r (suc p) (vertex_key ev) ev.step.head (row_pos R (suc p) r ev.step.linked) l fv

@@ -8,15 +8,17 @@ use Rattle.places.specs.declared.place.Change.{Change}
 use Rattle.places.specs.declared.place.Change.TheVariants as change
 use Rattle.places.specs.declared.place.Place.TheVariants as place
 use Rattle.places.specs.Touches.{change_head}
-use Rattle.runs.specs.Runs.{Run}
+use Rattle.runs.specs.Runs.{RunInTime}
 use Rattle.runs.specs.Views.{head_at, mark_at, LinkedAt}
-use Rattle.runs.specs.Steps.{LinkStep, HeadSteps, HeadSteps.stays, HeadSteps.moves, RunsStep}
-use Rattle.runs.specs.Times.{Past, LinkedBy, RunsLast}
+use Rattle.runs.specs.Steps.{LinkStep, HeadSteps, HeadSteps.stays, HeadSteps.moves}
+use Rattle.runs.specs.Times.{Before, LinkStepAtHead}
 use Rattle.runs.specs.Known.{Dead, Living, KnownLink, LinkEvent, LinkedSince, HeadMoved, Known}
 use Rattle.runs.specs.Reasons.{WorkerKnows, WorkerKnows.free, WorkerKnows.busy}
-use Rattle.runs.proofs.Links.{linked_is_row}
 use Rattle.runs.proofs.Times.{kept_from}
 use Rattle.runs.proofs.Kept.{stamped_later, dead_later}
+use Rattle.runs.proofs.Steps.{runs_step as step}
+use Rattle.runs.proofs.Times.{runs_last as last}
+use Rattle.laws.proofs.Owned.{linked_row}
 
 same_key : {i j : ℕ} → head.Vertex i ≡ head.Vertex j → change.Vertex i ≡ change.Vertex j
 same_key e = cc
@@ -26,10 +28,10 @@ pub key_change : (d : Change) (i : ℕ) → change_head d ≡ head.Vertex i → 
 key_change (change.Vertex x) i e = same_key e
 key_change (change.Edge b) i e = absurd cc
 
-pub row_pos : (R : Run) (t r : ℕ) → LinkedAt R t Vertex r → 0 < r
-row_pos R t r l = (linked_is_row (R.state t) Vertex r l).0
+pub row_pos : (R : RunInTime) (t r : ℕ) → LinkedAt R t Vertex r → 0 < r
+row_pos R t r l = (linked_row (R.state t) Vertex r l).0
 
-module _ (step : RunsStep) (last : RunsLast) (R : Run) (N : ℕ) (knows : (j : ℕ) → j < N → (w : ℕ) → w < R.sizes.workers → WorkerKnows R j w) where
+module _ (R : RunInTime) (N : ℕ) (knows : (j : ℕ) → j < N → (w : ℕ) → w < R.sizes.workers → WorkerKnows R j w) where
   pub link_event : (j : ℕ) → j < N → (d : Change) (r : ℕ) → LinkStep R j d r → (b : ℕ) × LinkEvent R j b d r
   link_event j l d r s = go (knows j l s.worker s.turn.within)
     where
@@ -37,7 +39,7 @@ module _ (step : RunsStep) (last : RunsLast) (R : Run) (N : ℕ) (knows : (j : �
       go (free e i) = let x : place.Link d (head_at R j (change_head d)) ≡ place.Idle = sym s.turn.place ∙ i in absurd cc
       go (busy b c e g i k) = (b, record { step = s; whose = e; why = subst (Known R j b) s.turn.place k })
 
-  pub key_event : (j : ℕ) → j < N → (i r : ℕ) → LinkedBy R j (head.Vertex i) r → (b : ℕ) × LinkEvent R j b (change.Vertex i) r
+  pub key_event : (j : ℕ) → j < N → (i r : ℕ) → LinkStepAtHead R j (head.Vertex i) r → (b : ℕ) × LinkEvent R j b (change.Vertex i) r
   key_event j l i r h = let e = link_event j l h.change r h.step in (e.0, subst (λ d. LinkEvent R j e.0 d r) (key_change h.change i h.head) e.1)
 
   module _ (i : ℕ) (n : i < R.sizes.keys) where
@@ -72,11 +74,11 @@ module _ (step : RunsStep) (last : RunsLast) (R : Run) (N : ℕ) (knows : (j : �
     pub moved_since : (k b : ℕ) → k ≤ N → HeadMoved R k b i → LinkedSince R k b i (head_at R k (head.Vertex i))
     moved_since k b l m = go (((last R).times m.held.time m.time (omega (arith, m.held.before))).head (head.Vertex i) n) (((last R).times m.time k (omega (arith, m.before))).head (head.Vertex i) n)
       where
-        go : (head_at R m.time (head.Vertex i) ≡ head_at R m.held.time (head.Vertex i)) ⊎ Past m.time (λ p. (m.held.time ≤ p) × LinkedBy R p (head.Vertex i) (head_at R m.time (head.Vertex i)))
-            → (head_at R k (head.Vertex i) ≡ head_at R m.time (head.Vertex i)) ⊎ Past k (λ p. (m.time ≤ p) × LinkedBy R p (head.Vertex i) (head_at R k (head.Vertex i))) → LinkedSince R k b i (head_at R k (head.Vertex i))
+        go : (head_at R m.time (head.Vertex i) ≡ head_at R m.held.time (head.Vertex i)) ⊎ Before m.time (λ p. (m.held.time ≤ p) × LinkStepAtHead R p (head.Vertex i) (head_at R m.time (head.Vertex i)))
+            → (head_at R k (head.Vertex i) ≡ head_at R m.time (head.Vertex i)) ⊎ Before k (λ p. (m.time ≤ p) × LinkStepAtHead R p (head.Vertex i) (head_at R k (head.Vertex i))) → LinkedSince R k b i (head_at R k (head.Vertex i))
         go (inl e) d = absurd (m.held.held.1 (sym e))
         go (inr p) (inl e) =
-            let ev = key_event p.time (omega (arith, p.before, m.before)) i _ (subst (LinkedBy R p.time (head.Vertex i)) (sym e) p.held.1) in
+            let ev = key_event p.time (omega (arith, p.before, m.before)) i _ (subst (LinkStepAtHead R p.time (head.Vertex i)) (sym e) p.held.1) in
             record { time = p.time; before = omega (arith, p.before, m.before); held = (ev.0, omega (arith, p.held.0, m.held.held.0.after), ev.1) }
         go (inr p) (inr q) =
             let ev = key_event q.time (omega (arith, q.before)) i _ q.held.1 in

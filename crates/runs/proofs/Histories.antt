@@ -1,17 +1,18 @@
--- Every history of begins and turns is the history of a run, and the run's history leads to its state.
+-- Every history is the history of a run, and the run's history leads to its state.
 use Rattle.std.proofs.Common.{◌≡◌, ℕ, zero, suc, ◌<◌, eqb, cond, List, [], ◌∷◌, length, sym, refl, ◌∙◌, ap₂, arith}
 use Rattle.std.proofs.lemmas.Bool.{eq-eqb, ne_eqb}
-use Rattle.stepper.specs.declared.request.Request.{Request}
-use Rattle.stepper.specs.declared.request.Request.TheVariants as request
-use Rattle.stepper.specs.States.{State}
-use Rattle.stepper.specs.Opening.{opened_state}
-use Rattle.stepper.specs.Requests.{reply_of, stepped}
-use Rattle.stepper.specs.History.{Event, Traces}
-use Rattle.runs.specs.Runs.{Run, history_at, HistoriesAreRuns, OpeningsAreRuns}
-use Rattle.laws.specs.Clean.{Clean, OpeningsClean}
+use Rattle.machine.specs.declared.request.Request.{Request}
+use Rattle.machine.specs.declared.request.Request.TheVariants as request
+use Rattle.machine.specs.States.{State}
+use Rattle.machine.specs.Opening.{opened_state}
+use Rattle.machine.specs.Requests.{reply_of, stepped}
+use Rattle.machine.specs.History.{Event, Traces}
+use Rattle.runs.specs.Runs.{RunInTime, history_at, HistoriesAreRuns, OpeningsAreRuns}
+use Rattle.laws.specs.Clean.{Clean}
+use Rattle.laws.proofs.Clean.{openings_clean as clean}
 
 -- the run's history leads from its start to its state
-pub traced : (R : Run) (k : ℕ) → Traces (R.state 0) (history_at R k) (R.state k)
+pub traced : (R : RunInTime) (k : ℕ) → Traces (R.state 0) (history_at R k) (R.state k)
 unfolding history_at
 traced R zero = refl
 traced R (suc k) = (R.state k, traced R k, refl, R.next k)
@@ -46,7 +47,7 @@ module _ (start : State) where
       let before : states (request_at (e ∷ h)) (length h) ≡ t.0 = states_agree _ _ (length h) (older_requests e h) ∙ reaches h t.0 t.1 in
       ap₂ stepped before (newest e h) ∙ sym t.3
 
-  run_by : Clean start → (ℕ → Request) → Run
+  run_by : Clean start → (ℕ → Request) → RunInTime
   unfolding states
   run_by c q = record { sizes = start.sizes; request = q; state = states q; clean = c; start = refl; next = λ k. refl }
 
@@ -76,5 +77,5 @@ histories_are_runs start c h s t = record {
   state = reaches start h s t;
 }
 
-pub openings_are_runs : OpeningsClean → OpeningsAreRuns
-openings_are_runs clean z cs l = histories_are_runs (opened_state cs z) (clean z cs l)
+pub openings_are_runs : OpeningsAreRuns
+openings_are_runs z cs l = histories_are_runs (opened_state cs z) (clean z cs l)

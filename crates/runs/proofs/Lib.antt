@@ -16,17 +16,18 @@ pub mod Opens
 pub mod Knows
 pub mod Events
 pub mod EdgeEvents
-mod Ends
+pub mod Ends
 pub mod Decides
 pub mod Births
 mod MarkLaws
-mod MarkSound
+pub mod MarkSound
 mod Carries
 pub mod Once
-mod Sights
-mod VertexFinds
-mod EdgeFinds
-mod EdgeMisses
-mod Starts
-mod Settling
+pub mod Sights
+pub mod VertexFinds
+pub mod EdgeFinds
+pub mod EdgeMisses
+pub mod Starts
+pub mod Settling
 mod Worked
+pub mod Theorems

@@ -1,7 +1,7 @@
 -- A link turn: whether it links, and what the new row then holds.
-use Rattle.std.proofs.Common.{◌≡◌, ℕ, ◌+◌, ◌*◌, ◌<◌, ◌≤◌, true, eqb, List, length, Some, refl, ap, ◌∙◌, arith}
+use Rattle.std.proofs.Common.{◌≡◌, ℕ, ◌+◌, ◌*◌, ◌<◌, ◌≤◌, true, eqb, List, length, refl, ap, ◌∙◌, arith}
 use Rattle.std.proofs.lemmas.Bool.{eq-eqb, lt-ltb}
-use Rattle.std.proofs.lemmas.List.{length-set, get_or-set_same, get_or-set_other}
+use Rattle.std.proofs.lemmas.List.{get_or-set_other}
 use Rattle.layout.specs.declared.sizes.Sizes.{Sizes}
 use Rattle.layout.specs.declared.names.Kind.{Kind}
 use Rattle.layout.specs.declared.names.Kind.TheVariants.{Vertex, Edge}
@@ -9,32 +9,21 @@ use Rattle.layout.specs.declared.names.Field.TheVariants.{Ins, Del}
 use Rattle.layout.specs.declared.names.Head.{Head}
 use Rattle.layout.specs.declared.names.Cell.{Cell}
 use Rattle.layout.specs.declared.names.Cell.TheVariants as cell
-use Rattle.layout.specs.Layout.{index_of, needed, Named, IsRow}
-use Rattle.layout.specs.Rows.{rows_each, row_at, Owns}
+use Rattle.layout.specs.Layout.{index_of, Named, IsRow}
 use Rattle.layout.proofs.Regions.{index_lt}
 use Rattle.layout.proofs.Inverse.{same_name}
-use Rattle.layout.proofs.Owners.{own_row, one_owner}
 use Rattle.places.specs.declared.place.Bound.{Bound}
 use Rattle.places.specs.declared.place.Change.{Change}
 use Rattle.places.specs.declared.place.Change.TheVariants as change
 use Rattle.places.specs.Marks.{pending}
 use Rattle.places.specs.Touches.{change_head, change_kind}
-use Rattle.stepper.specs.States.{State}
-use Rattle.stepper.specs.Effects.{put, filled, link_done, linked_cells}
-use Rattle.stepper.specs.Turns.{worker_at, cell_at}
-use Rattle.stepper.specs.Workers.{linked_of}
-use Rattle.laws.specs.Fits.{Linked, InChain.at_head, InChain.below, Counted}
-use Rattle.laws.specs.Changes.{next_own}
-
-abbrev pub Enough : Sizes → List ℕ → Type 0
-Enough z cs = needed z ≤ length cs
+use Rattle.machine.specs.Effects.{put, filled, link_done, linked_cells}
+use Rattle.machine.specs.Turns.{cell_at}
+use Rattle.laws.proofs.Puts.{Enough, enough_set, put_same}
 
 module _ (z : Sizes) where
   pub put_enough : (cs : List ℕ) (d : Cell) (v : ℕ) → Enough z cs → Enough z (put z cs d v)
-  put_enough cs d v l = simp length-set (omega arith)
-
-  pub put_same : (cs : List ℕ) (c : Cell) (v : ℕ) → Named z c → Enough z cs → cell_at z (put z cs c v) c ≡ v
-  put_same cs c v n l = get_or-set_same cs (index_of z c) v 0 (omega (arith, index_lt z c n))
+  put_enough cs d v l = enough_set z cs (index_of z d) v l
 
   pub put_other : (cs : List ℕ) (d c : Cell) (v : ℕ) → Named z c → Named z d → ¬ (c ≡ d) → cell_at z (put z cs d v) c ≡ cell_at z cs c
   put_other cs d c v n m a = get_or-set_other cs (index_of z d) (index_of z c) v 0 (λ e. a (same_name z c d n m e))
@@ -113,24 +102,3 @@ module _ (z : Sizes) (cs : List ℕ) (l : Enough z cs) (h r : ℕ) where
 
     pub linked_cell : (c : Cell) → Named z c → ¬ (c ≡ cell.Head (change_head d)) → cell_at z (linked_cells z cs d h r) c ≡ cell_at z (filled z cs d h r) c
     linked_cell c q a = ap (λ (x : List ℕ). cell_at z x c) swapped_is ∙ put_other z (filled z cs d h r) (cell.Head (change_head d)) c r q m a
-
--- Rows that are linked, and the row that comes next.
-module _ (s : State) where
-  pub linked_is_row : (k : Kind) (r : ℕ) → Linked s k r → IsRow s.sizes k r
-  linked_is_row k r (at_head h _ n e f l) = l
-  linked_is_row k r (below q _ x f l) = l
-
-  pub next_is_row : (w : ℕ) (k : Kind) (r : ℕ) → next_own s w k ≡ Some r → IsRow s.sizes k r × Owns s.sizes k w r
-  next_is_row w k r e = own_row s.sizes k w (linked_of (worker_at s w) k) r e
-
-  pub row_is : (k : Kind) (w n r : ℕ) → row_at s.sizes k w n ≡ Some r → w * rows_each s.sizes k + n + 1 ≡ r
-  row_is k w n r e = grind arith
-
-  pub next_not_used : (w : ℕ) (k : Kind) (r : ℕ) → next_own s w k ≡ Some r → ¬ (Counted s k r)
-  next_not_used w k r e l =
-      let o : l.owner ≡ w = one_owner s.sizes k l.owner w r (own_row s.sizes k l.owner l.place r l.is).1 (next_is_row w k r e).1 in
-      let p : l.owner * rows_each s.sizes k + l.place + 1 ≡ r = row_is k l.owner l.place r l.is in
-      let q : w * rows_each s.sizes k + linked_of (worker_at s w) k + 1 ≡ r = row_is k w (linked_of (worker_at s w) k) r e in
-      let m : l.owner * rows_each s.sizes k ≡ w * rows_each s.sizes k = ap (λ v. v * rows_each s.sizes k) o in
-      let b : linked_of (worker_at s l.owner) k ≡ linked_of (worker_at s w) k = ap (λ v. linked_of (worker_at s v) k) o in
-      omega (arith, l.before)

@@ -21,49 +21,49 @@ use Rattle.places.specs.declared.place.Hand.{Hand}
 use Rattle.places.specs.declared.place.Place.TheVariants as place
 use Rattle.places.specs.Rules.{look_found, checked, bound_row, alive, absent, looked}
 use Rattle.places.specs.Touches.{look_head, look_kind}
-use Rattle.runs.specs.Runs.{Run}
+use Rattle.runs.specs.Runs.{RunInTime}
 use Rattle.runs.specs.Views.{number_at, head_at, mark_at, LinkedAt}
-use Rattle.runs.specs.Steps.{RunsStep}
-use Rattle.runs.specs.Times.{Past, TimeLaws, RunsLast}
+use Rattle.runs.specs.Times.{Before, TimeLaws}
 use Rattle.runs.specs.Purposes.{look_call}
-use Rattle.runs.specs.Known.{TurnOf, Stamped, Dead, Living, HeadWas, Saw, BoundTo, Over, HitAt, KnownFound, Firm}
+use Rattle.runs.specs.Known.{TurnOf, StampedAt, Dead, Living, HeadWas, Saw, BoundTo, Over, HitAt, KnownFound, Firm}
 use Rattle.runs.specs.Reasons.{Why.vertex_here, Why.vertex_gone, Why.edge_here, Why.edge_missed, WorkerKnows}
 use Rattle.runs.proofs.Goods.{Good}
-use Rattle.runs.proofs.Times.{past_later}
+use Rattle.runs.proofs.Times.{before_later}
 use Rattle.runs.proofs.Kept.{stamped_later, over_later}
 use Rattle.runs.proofs.Heads.{row_pos, still_head}
+use Rattle.runs.proofs.Times.{runs_last as last}
 
-pub mark_settled : (R : Run) (k : ℕ) (c : Kind) (f : Field) (r : ℕ) (m : Mark) → mark_at R k c f r ≡ m → ¬ (m ≡ NotEnded) → ¬ (m ≡ Pending) → Stamped R k c f r
+pub mark_settled : (R : RunInTime) (k : ℕ) (c : Kind) (f : Field) (r : ℕ) (m : Mark) → mark_at R k c f r ≡ m → ¬ (m ≡ NotEnded) → ¬ (m ≡ Pending) → StampedAt R k c f r
 mark_settled R k c f r NotEnded e a d = absurd (a refl)
 mark_settled R k c f r Pending e a d = absurd (d refl)
 mark_settled R k c f r (Stamp n) e a d = record { number = n; is = e }
 
 -- The key of a look at a vertex is a key of the opening.
-abbrev pub KeysOf : Run → Look → Type 0
+abbrev pub KeysOf : RunInTime → Look → Type 0
 KeysOf R (look.Vertex o i) = i < R.sizes.keys
 KeysOf R (look.Source o p) = p.from < R.sizes.keys
 KeysOf R (look.Target o p s) = p.to < R.sizes.keys
 KeysOf R (look.Edge o d) = Unit {0}
 
-module _ (step : RunsStep) (last : RunsLast) (R : Run) (k : ℕ) (knows : (j : ℕ) → j < suc k → (w : ℕ) → w < R.sizes.workers → WorkerKnows R j w) (b : ℕ) (started : TurnOf R k b) where
+module _ (R : RunInTime) (k : ℕ) (knows : (j : ℕ) → j < suc k → (w : ℕ) → w < R.sizes.workers → WorkerKnows R j w) (b : ℕ) (started : TurnOf R k b) where
   pub laws : TimeLaws R k (suc k)
   laws = (last R).times k (suc k) (omega arith)
 
   -- what holds at this turn
-  pub now : {P : ℕ → Type 0} → P k → Past (suc k) P
+  pub now : {P : ℕ → Type 0} → P k → Before (suc k) P
   now h = record { time = k; before = omega arith; held = h }
 
-  pub later : {P : ℕ → Type 0} → Past k P → Past (suc k) P
-  later h = past_later (omega arith) h
+  pub later : {P : ℕ → Type 0} → Before k P → Before (suc k) P
+  later h = before_later (omega arith) h
 
-  pub stamped_next : (c : Kind) (f : Field) (r : ℕ) → LinkedAt R k c r → Stamped R k c f r → Stamped R (suc k) c f r
+  pub stamped_next : (c : Kind) (f : Field) (r : ℕ) → LinkedAt R k c r → StampedAt R k c f r → StampedAt R (suc k) c f r
   stamped_next c f r l s = stamped_later R k (suc k) (omega arith) laws c f r l s
 
-  pub dead_next : (r : ℕ) → LinkedAt R k Vertex r → Stamped R k Vertex Del r → Dead R (suc k) r
+  pub dead_next : (r : ℕ) → LinkedAt R k Vertex r → StampedAt R k Vertex Del r → Dead R (suc k) r
   dead_next r l s = record { linked = laws.linked Vertex r l; ended = stamped_next Vertex Del r l s }
 
   -- before a swap of del of an edge row
-  ending : (d : Bound) (e : ℕ) → Past (suc k) (λ t. HitAt R t b Remove d e) → Good R (suc k) b (call.Edge Remove d.pair) None (Continue (place.End (change.Edge d) e))
+  ending : (d : Bound) (e : ℕ) → Before (suc k) (λ t. HitAt R t b Remove d e) → Good R (suc k) b (call.Edge Remove d.pair) None (Continue (place.End (change.Edge d) e))
   ending d e n =
       let t : n.time ≤ suc k = omega (arith, n.before) in
       ((stamped_later R n.time (suc k) t ((last R).times n.time (suc k) t) Edge Ins e n.held.linked n.held.born, n), refl)
@@ -90,7 +90,7 @@ module _ (step : RunsStep) (last : RunsLast) (R : Run) (k : ℕ) (knows : (j : �
   checks Contains d (Err h) n = edge_missed Contains d h refl refl refl (inr refl) n
   checks Contains d (Ok e) n = edge_here Contains d e refl refl (inr (refl, refl)) n
   checks Remove d (Err h) n = edge_missed Remove d h refl refl refl (inl refl) n
-  checks Remove d (Ok e) n = ending d e (past_later (omega (arith, n.before, n.held.2.before)) n.held.2.held.2)
+  checks Remove d (Ok e) n = ending d e (before_later (omega (arith, n.before, n.held.2.before)) n.held.2.held.2)
 
   -- a look that finds nothing
   abbrev pub Nothing : Look → ℕ → Type 0
@@ -103,7 +103,7 @@ module _ (step : RunsStep) (last : RunsLast) (R : Run) (k : ℕ) (knows : (j : �
   nothing_zero (look.Source o p) = inl refl
   nothing_zero (look.Target o p s) = inl refl
 
-  nothing_ended : (l : Look) (r : ℕ) → LinkedAt R k (look_kind l) r → Stamped R k (look_kind l) Ins r → Stamped R k (look_kind l) Del r → Nothing l r
+  nothing_ended : (l : Look) (r : ℕ) → LinkedAt R k (look_kind l) r → StampedAt R k (look_kind l) Ins r → StampedAt R k (look_kind l) Del r → Nothing l r
   nothing_ended (look.Edge o d) r l s e = inr (record { linked = laws.linked Edge r l; born = stamped_next Edge Ins r l s; why = inl (stamped_next Edge Del r l e) })
   nothing_ended (look.Vertex o i) r l s e = inr (dead_next r l e)
   nothing_ended (look.Source o p) r l s e = inr (dead_next r l e)
@@ -121,14 +121,14 @@ module _ (step : RunsStep) (last : RunsLast) (R : Run) (k : ℕ) (knows : (j : �
   goes (look.Edge o d) h a n = founds o d (Err h) (a, n)
 
   -- a look that finds a row that has not ended
-  lives : (i r t : ℕ) → i < R.sizes.keys → t < k → head_at R t (head.Vertex i) ≡ r → LinkedAt R k Vertex r → Stamped R k Vertex Ins r → mark_at R k Vertex Del r ≡ NotEnded → Living R k i r
-  lives i r t n a e l s z = record { linked = l; head = still_head step last R (suc k) knows i n r t k (row_pos R k r l) (omega arith) (omega arith) e z; born = s; alive = z }
+  lives : (i r t : ℕ) → i < R.sizes.keys → t < k → head_at R t (head.Vertex i) ≡ r → LinkedAt R k Vertex r → StampedAt R k Vertex Ins r → mark_at R k Vertex Del r ≡ NotEnded → Living R k i r
+  lives i r t n a e l s z = record { linked = l; head = still_head R (suc k) knows i n r t k (row_pos R k r l) (omega arith) (omega arith) e z; born = s; alive = z }
 
   -- the bound rows that are at hand are those of the cells
   abbrev pub HandHolds : ℕ → Hand → Type 0
   HandHolds r h = (h.source ≡ number_at R k (cell.Source r)) × (h.target ≡ number_at R k (cell.Target r))
 
-  hits : (o : Op) (d : Bound) (r : ℕ) (h : Hand) → HandHolds r h → Saw R k b (look.Edge o d) r → LinkedAt R k Edge r → Stamped R k Edge Ins r → mark_at R k Edge Del r ≡ NotEnded → Good R (suc k) b (call.Edge o d.pair) None (look_found o d (bound_row d r h))
+  hits : (o : Op) (d : Bound) (r : ℕ) (h : Hand) → HandHolds r h → Saw R k b (look.Edge o d) r → LinkedAt R k Edge r → StampedAt R k Edge Ins r → mark_at R k Edge Del r ≡ NotEnded → Good R (suc k) b (call.Edge o d.pair) None (look_found o d (bound_row d r h))
   hits o d r h q a l s z = go (eqb h.source d.source) (eqb h.target d.target) refl refl
     where
       other : ¬ (BoundTo R k r d) → Good R (suc k) b (call.Edge o d.pair) None (look_found o d (Err r))
@@ -143,15 +143,15 @@ module _ (step : RunsStep) (last : RunsLast) (R : Run) (k : ℕ) (knows : (j : �
   LookHand (look.Edge o d) r h = HandHolds r h
   LookHand l r h = Unit {0}
 
-  meets : (l : Look) (r : ℕ) (h : Hand) → KeysOf R l → LookHand l r h → Saw R k b l r → LinkedAt R k (look_kind l) r → Stamped R k (look_kind l) Ins r → mark_at R k (look_kind l) Del r ≡ NotEnded → Good R (suc k) b (look_call l) None (alive l r h)
+  meets : (l : Look) (r : ℕ) (h : Hand) → KeysOf R l → LookHand l r h → Saw R k b l r → LinkedAt R k (look_kind l) r → StampedAt R k (look_kind l) Ins r → mark_at R k (look_kind l) Del r ≡ NotEnded → Good R (suc k) b (look_call l) None (alive l r h)
   meets (look.Vertex Add i) r h n q a l s z = vertex_here i r refl (inl (refl, refl)) (now (started, lives i r _ n a.before a.held.1 l s z))
   meets (look.Vertex Remove i) r h n q a l s z = ((stamped_next Vertex Ins r l s, now (started, lives i r _ n a.before a.held.1 l s z)), refl)
   meets (look.Vertex Contains i) r h n q a l s z = vertex_here i r refl (inr (refl, refl)) (now (started, lives i r _ n a.before a.held.1 l s z))
   meets (look.Source o p) r h n q a l s z = (now (started, lives p.from r _ n a.before a.held.1 l s z), refl)
-  meets (look.Target o p x) r h n q a l s z = ((tt, (past_later (omega (arith, a.before)) a.held.2, now (started, lives p.to r _ n a.before a.held.1 l s z))), refl)
+  meets (look.Target o p x) r h n q a l s z = ((tt, (before_later (omega (arith, a.before)) a.held.2, now (started, lives p.to r _ n a.before a.held.1 l s z))), refl)
   meets (look.Edge o d) r h n q a l s z = hits o d r h q a l s z
 
-  pub looks : (l : Look) (r : ℕ) (h : Hand) (m : Mark) → KeysOf R l → LookHand l r h → mark_at R k (look_kind l) Del r ≡ m → ¬ (m ≡ Pending) → Saw R k b l r → LinkedAt R k (look_kind l) r → Stamped R k (look_kind l) Ins r → Good R (suc k) b (look_call l) None (looked l r h m)
+  pub looks : (l : Look) (r : ℕ) (h : Hand) (m : Mark) → KeysOf R l → LookHand l r h → mark_at R k (look_kind l) Del r ≡ m → ¬ (m ≡ Pending) → Saw R k b l r → LinkedAt R k (look_kind l) r → StampedAt R k (look_kind l) Ins r → Good R (suc k) b (look_call l) None (looked l r h m)
   looks l r h NotEnded n q e p a t s = meets l r h n q a t s e
   looks l r h Pending n q e p a t s = absurd (p refl)
   looks l r h (Stamp x) n q e p a t s = goes l r (later a) (nothing_ended l r t s (record { number = x; is = e }))

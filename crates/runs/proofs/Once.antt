@@ -15,35 +15,33 @@ use Rattle.places.specs.Marks.{pending, mark_of}
 use Rattle.places.specs.Moved.{Next, Next as next}
 use Rattle.places.specs.Rules.{end_done}
 use Rattle.places.specs.Touches.{change_head, change_kind}
-use Rattle.stepper.specs.declared.request.Request.TheVariants as request
-use Rattle.stepper.specs.declared.request.Reply.TheVariants as reply
-use Rattle.stepper.specs.States.{State}
-use Rattle.stepper.specs.Effects.{got_of}
-use Rattle.stepper.specs.Turns.{worker_at, hand_at, next_at, answer_at, followed_at, turned}
-use Rattle.stepper.specs.Workers.{followed}
-use Rattle.stepper.specs.Requests.{turn_refused, answered_or, reply_of}
-use Rattle.laws.specs.Fits.{Linked}
+use Rattle.machine.specs.declared.request.Request.TheVariants as request
+use Rattle.machine.specs.declared.request.Reply.TheVariants as reply
+use Rattle.machine.specs.States.{State}
+use Rattle.machine.specs.Effects.{got_of}
+use Rattle.machine.specs.Turns.{worker_at, hand_at, next_at, answer_at, followed_at, turned}
+use Rattle.machine.specs.Workers.{followed}
+use Rattle.machine.specs.Requests.{turn_refused, answered_or, reply_of}
 use Rattle.laws.specs.Changes.{number_in}
-use Rattle.laws.specs.Sound.{RunsSound, RunsKeepLaws}
-use Rattle.laws.specs.Stamps.{RunsStamp}
-use Rattle.runs.specs.Runs.{Run}
+use Rattle.laws.proofs.Taken.{begin_taken, begun_others}
+use Rattle.laws.proofs.Rests.{rows_back, numbers_same, Rests}
+use Rattle.runs.specs.Runs.{RunInTime}
 use Rattle.runs.specs.Views.{head_at, mark_at, place_at, LinkedAt}
 use Rattle.runs.specs.Seen.{open_at}
-use Rattle.runs.specs.Steps.{RunsStep}
-use Rattle.runs.specs.Times.{RunsLast}
-use Rattle.runs.specs.Purposes.{Made, place_made}
+use Rattle.runs.specs.Purposes.{MadeChange, place_made}
 use Rattle.runs.specs.Known.{ChangeEvent}
-use Rattle.runs.specs.Reasons.{WorkerKnows, WorkerKnows.free, WorkerKnows.busy, RunsKnow}
+use Rattle.runs.specs.Reasons.{WorkerKnows, WorkerKnows.free, WorkerKnows.busy}
 use Rattle.runs.specs.Once.{RunsChangeOnce}
-use Rattle.runs.proofs.Links.{linked_is_row}
 use Rattle.runs.proofs.Turns.{next_is, touch_from, LinkTurn, LinkTurn.spent, LinkTurn.lost, LinkTurn.won, link_turn, worker_after, others_after}
 use Rattle.runs.proofs.Swaps.{mark_zero, swap_done}
-use Rattle.runs.proofs.Steps.{StepCase, StepCase.keeps, StepCase.begins, StepCase.turns, begin_taken, begun_others, sound_at, case_at, here, within, won_step}
-use Rattle.runs.proofs.Opens.{refused_keeps, begin_opens, begin_keeps, runs_keeps, answer_closes, answer_keeps}
+use Rattle.runs.proofs.Steps.{StepCase, StepCase.rests, StepCase.begins, StepCase.turns, sound_at, case_at, here, within, won_step}
+use Rattle.runs.proofs.Opens.{rests_keep, begin_opens, begin_keeps, runs_keeps, answer_closes, answer_keeps}
 use Rattle.runs.proofs.Carries.{next_made, made_after}
+use Rattle.runs.proofs.Knows.{runs_know as know}
+use Rattle.laws.proofs.Owned.{linked_row}
 
-module _ (sound : RunsSound) (keep : RunsKeepLaws) (stamps : RunsStamp) (step : RunsStep) (last : RunsLast) (know : RunsKnow) (R : Run) where
-  abbrev made_of : Field → Change → ℕ → Made
+module _ (R : RunInTime) where
+  abbrev made_of : Field → Change → ℕ → MadeChange
   made_of f d r = record { field = f; change = d; row = r }
 
   -- the turn of a change
@@ -75,7 +73,7 @@ module _ (sound : RunsSound) (keep : RunsKeepLaws) (stamps : RunsStamp) (step : 
       go (busy a c e g i n) = subst (λ y. (y < k) × ((x : Begin) × (R.request y ≡ request.Begin x) × (x.worker ≡ w))) (same_some (sym e ∙ o)) (g.before, (g.begin, g.asked, g.worker))
 
   -- no two workers have one call open
-  one_worker : (k w v b : ℕ) → w < R.sizes.workers → v < R.sizes.workers → open_at R k w ≡ Some b → open_at R k v ≡ Some b → w ≡ v
+  pub one_worker : (k w v b : ℕ) → w < R.sizes.workers → v < R.sizes.workers → open_at R k w ≡ Some b → open_at R k v ≡ Some b → w ≡ v
   one_worker k w v b l m o e =
       let x = (begun_of k w b l o).1 in
       let y = (begun_of k v b m e).1 in
@@ -83,11 +81,11 @@ module _ (sound : RunsSound) (keep : RunsKeepLaws) (stamps : RunsStamp) (step : 
       let same : x.0 ≡ y.0 = cc in
       sym x.2 ∙ ap (λ b. b.worker) same ∙ y.2
 
-  -- a step that leaves the state makes no change
-  no_change : (f : Field) (k b : ℕ) (d : Change) (r : ℕ) → R.state (suc k) ≡ R.state k → ChangeEvent R f k b d r → ⊥
-  no_change Ins k b d r e ev = ev.step.fresh (subst (λ s. Linked s (change_kind d) r) e ev.step.linked)
+  -- a step in which calls rest makes no change
+  no_change : (f : Field) (k b : ℕ) (d : Change) (r : ℕ) → Rests (R.state k) (R.state (suc k)) → ChangeEvent R f k b d r → ⊥
+  no_change Ins k b d r e ev = ev.step.fresh (rows_back (R.state k) (R.state (suc k)) e.rows (change_kind d) r ev.step.linked)
   no_change Del k b d r e ev =
-      let same : mark_at R (suc k) (change_kind d) Del r ≡ mark_at R k (change_kind d) Del r = ap (λ s. mark_of (number_in s (cell.Stamp (change_kind d) Del r))) e in
+      let same : mark_at R (suc k) (change_kind d) Del r ≡ mark_at R k (change_kind d) Del r = ap mark_of (numbers_same (R.state k) (R.state (suc k)) e.rows (cell.Stamp (change_kind d) Del r)) in
       let x : Pending ≡ NotEnded = sym ev.after ∙ same ∙ ev.before in absurd cc
 
   abbrev Once : ℕ → Type 0
@@ -107,35 +105,35 @@ module _ (sound : RunsSound) (keep : RunsKeepLaws) (stamps : RunsStamp) (step : 
     s = R.state k
 
     inside : w < R.sizes.workers
-    inside = within sound keep stamps R k w q n e
+    inside = within R k w q n e
 
     abbrev placed : Next → Place
     placed x = (followed s.sizes.keys (worker_at s w) (hand_at s w) x).worker.place
 
     place_after : place_at R (suc k) w ≡ (followed_at s w).worker.place
-    place_after = ap (λ s. (worker_at s w).place) e ∙ ap (λ u. u.place) (worker_after s w (sound_at sound keep stamps R k) (here sound keep stamps R k w q n e))
+    place_after = ap (λ s. (worker_at s w).place) e ∙ ap (λ u. u.place) (worker_after s w (sound_at R k) (here R k w q n e))
 
-    old_made : (m : Made) → place_made (place_at R k w) ≡ Some m → answer_at s w ≡ None → place_made (followed_at s w).worker.place ≡ Some m
+    old_made : (m : MadeChange) → place_made (place_at R k w) ≡ Some m → answer_at s w ≡ None → place_made (followed_at s w).worker.place ≡ Some m
     old_made m g a = made_after m s.sizes.keys (worker_at s w) (hand_at s w) (next_at s w) (next_made m (place_at R k w) (hand_at s w) (got_of s.sizes s.cells (touch_from s w (place_at R k w))) g) a
 
     new_end : (d : Change) (r : ℕ) → place_at R k w ≡ place.End d r → LinkedAt R k (change_kind d) r → mark_at R k (change_kind d) Del r ≡ NotEnded → place_made (followed_at s w).worker.place ≡ Some (made_of Del d r)
     new_end d r p l b = go (eqb (number_in s (cell.Stamp (change_kind d) Del r)) 0) refl
       where
-        says : next_at s w ≡ next.Out (end_done (eqb (number_in s (cell.Stamp (change_kind d) Del r)) 0) d r)
-        says = next_is s w (place.End d r) p ∙ ap (λ v. next.Out (end_done v d r)) (swap_done s w (sound_at sound keep stamps R k) (cell.Stamp (change_kind d) Del r) 0 pending (linked_is_row s (change_kind d) r l))
+        says : next_at s w ≡ next.Moved (end_done (eqb (number_in s (cell.Stamp (change_kind d) Del r)) 0) d r)
+        says = next_is s w (place.End d r) p ∙ ap (λ v. next.Moved (end_done v d r)) (swap_done s w (sound_at R k) (cell.Stamp (change_kind d) Del r) 0 pending (linked_row s (change_kind d) r l))
 
         go : (v : Bool) → eqb (number_in s (cell.Stamp (change_kind d) Del r)) 0 ≡ v → place_made (followed_at s w).worker.place ≡ Some (made_of Del d r)
-        go true v = ap (λ x. place_made (placed x)) (says ∙ ap (λ y. next.Out (end_done y d r)) v)
+        go true v = ap (λ x. place_made (placed x)) (says ∙ ap (λ y. next.Moved (end_done y d r)) v)
         go false v = absurd (mark_zero _ v b)
 
     new_link : (d : Change) (r : ℕ) → place_at R k w ≡ place.Link d (head_at R k (change_head d)) → head_at R (suc k) (change_head d) ≡ r → answer_at s w ≡ None → place_made (followed_at s w).worker.place ≡ Some (made_of Ins d r)
-    new_link d r p t a = go (link_turn s w (sound_at sound keep stamps R k) (here sound keep stamps R k w q n e) d (head_at R k (change_head d)) p)
+    new_link d r p t a = go (link_turn s w (sound_at R k) (here R k w q n e) d (head_at R k (change_head d)) p)
       where
         go : LinkTurn s w d (head_at R k (change_head d)) → place_made (followed_at s w).worker.place ≡ Some (made_of Ins d r)
         go (spent y x) = let z : Some RowsSpent ≡ None = sym (ap (λ y. (followed s.sizes.keys (worker_at s w) (hand_at s w) y).answer) x) ∙ a in absurd cc
         go (lost y m z x) = absurd (z refl)
         go (won y m g x v c) =
-            let st = won_step sound keep stamps R k w q n e d (head_at R k (change_head d)) y p m g v c in
+            let st = won_step R k w q n e d (head_at R k (change_head d)) y p m g v c in
             ap (λ u. place_made u.place) v ∙ ap (λ u. Some (made_of Ins d u)) (sym st.head ∙ t)
 
     new_made : (f : Field) (b : ℕ) (d : Change) (r : ℕ) → ChangeEvent R f k b d r → answer_at s w ≡ None → place_made (followed_at s w).worker.place ≡ Some (made_of f d r)
@@ -160,7 +158,7 @@ module _ (sound : RunsSound) (keep : RunsKeepLaws) (stamps : RunsStamp) (step : 
         (λ (x : v ≡ w). subst (λ u. (f : Field) (p : ℕ) (d : Change) (r : ℕ) → p < suc k → ChangeEvent R f p b d r → place_made (place_at R (suc k) u) ≡ Some (made_of f d r)) (sym x) (own_once (answer_at s w) refl y b (ap (open_at R (suc k)) (sym x) ∙ o)))
         (λ (x : ¬ (v ≡ w)).
         let same = other_open v x _ y in
-        alone k h v l b same (ap (λ s. (worker_at s v).place) e ∙ ap (λ u. u.place) (others_after s w (sound_at sound keep stamps R k) (here sound keep stamps R k w q n e) v x)) o
+        alone k h v l b same (ap (λ s. (worker_at s v).place) e ∙ ap (λ u. u.place) (others_after s w (sound_at R k) (here R k w q n e) v x)) o
         (λ f d r ev. let t = by_turn f k b d r ev in x (one_worker k v w b l inside (sym same ∙ o) (ap (open_at R k) (sym (same_turner t.asked q)) ∙ t.whose))))
         (cases_eq v w)
 
@@ -176,16 +174,16 @@ module _ (sound : RunsSound) (keep : RunsKeepLaws) (stamps : RunsStamp) (step : 
       (cases_eq w a.worker)
 
   next_once : (k : ℕ) → Once k → Once (suc k)
-  next_once k h = go (case_at sound keep stamps R k)
+  next_once k h = go (case_at R k)
     where
       go : StepCase (R.state k) (R.request k) (R.state (suc k)) → Once (suc k)
-      go (keeps x f e) = λ w l b o. alone k h w l b (refused_keeps R k (R.request k) x w refl f) (ap (λ s. (worker_at s w).place) e) o (λ f d r ev. no_change f k b d r e ev)
-      go (begins a c q t f e) = begin_once k h a q (λ v n. ap (λ s. (worker_at s v).place) e ∙ ap (λ u. u.place) (begun_others (R.state k) (sound_at sound keep stamps R k) a.worker (begin_taken (R.state k) a c t).within c v n)) (subst (λ x. reply_of (R.state k) x ≡ reply.Done) q f)
+      go (rests f e) = λ w l b o. alone k h w l b (rests_keep R k w f) (e.workers w).place o (λ f d r ev. no_change f k b d r e ev)
+      go (begins a c q t f e) = begin_once k h a q (λ v n. ap (λ s. (worker_at s v).place) e ∙ ap (λ u. u.place) (begun_others (R.state k) (sound_at R k) a.worker (begin_taken (R.state k) a c t).within c v n)) (subst (λ x. reply_of (R.state k) x ≡ reply.Done) q f)
       go (turns w q n f e) = turn_once k w h q n e (subst (λ x. reply_of (R.state k) x ≡ answered_or (Ok (answer_at (R.state k) w))) q f)
 
   pub once : (k : ℕ) → Once k
   once zero = λ w l b o f p d r i ev. absurd (omega arith)
   once (suc k) = next_once k (once k)
 
-pub runs_change_once : RunsSound → RunsKeepLaws → RunsStamp → RunsStep → RunsLast → RunsKnow → RunsChangeOnce
-runs_change_once sound keep stamps step last know R k w b l o f p d r i ev = once sound keep stamps step last know R k w l b o f p d r i ev
+pub runs_change_once : RunsChangeOnce
+runs_change_once R k w b l o f p d r i ev = once R k w l b o f p d r i ev

@@ -1,37 +1,43 @@
 -- Which call a worker has open after a step.
-use Rattle.std.proofs.Common.{◌≡◌, ℕ, suc, Some, None, Option, sym, refl, ap, ◌∙◌}
+use Rattle.std.proofs.Common.{◌≡◌, ℕ, suc, false, Some, None, Option, sym, refl, ap, ◌∙◌}
 use Rattle.std.proofs.lemmas.Bool.{eq-eqb, ne_eqb}
 use Rattle.codes.specs.declared.answer.Answer.{Answer}
-use Rattle.codes.specs.declared.refusal.Refusal.{Refusal}
 use Rattle.places.specs.declared.call.Begin.{Begin}
-use Rattle.stepper.specs.declared.request.Request.{Request}
-use Rattle.stepper.specs.declared.request.Request.TheVariants as request
-use Rattle.stepper.specs.declared.request.Reply.{Reply}
-use Rattle.stepper.specs.declared.request.Reply.TheVariants as reply
-use Rattle.stepper.specs.Requests.{reply_of}
-use Rattle.order.specs.Seen.{open_after, open_call}
-use Rattle.runs.specs.Runs.{Run}
+use Rattle.machine.specs.declared.request.Request.{Request}
+use Rattle.machine.specs.declared.request.Request.TheVariants as request
+use Rattle.machine.specs.declared.request.Reply.{Reply}
+use Rattle.machine.specs.declared.request.Reply.TheVariants as reply
+use Rattle.machine.specs.Requests.{reply_of}
+use Rattle.questions.specs.Graph.{Graph}
+use Rattle.order.specs.Seen.{CallSight.neither, open_after, open_call}
+use Rattle.runs.specs.Runs.{RunInTime}
 use Rattle.runs.specs.Seen.{page_graph, sight_of, seen, open_at}
+use Rattle.runs.proofs.Steps.{acts}
 
-pub open_next : (R : Run) (k w : ℕ) → open_at R (suc k) w ≡ open_after (seen R k) k w (open_at R k w)
+-- what neither begins a call nor gives a turn is not seen
+pub rest_unseen : (pages : ℕ → Graph) (q : Request) (y : Reply) → acts q y ≡ false → sight_of pages q y ≡ neither
+rest_unseen pages (request.Begin b) reply.Done e = absurd cc
+rest_unseen pages (request.Turn w) (reply.Answered a) e = absurd cc
+rest_unseen pages q y e = refl
+
+pub open_next : (R : RunInTime) (k w : ℕ) → open_at R (suc k) w ≡ open_after (seen R k) k w (open_at R k w)
 unfolding open_call
 open_next R k w = refl
 
-pub open_start : (R : Run) (w : ℕ) → open_at R 0 w ≡ None
+pub open_start : (R : RunInTime) (w : ℕ) → open_at R 0 w ≡ None
 unfolding open_call
 open_start R w = refl
 
-module _ (R : Run) (k : ℕ) where
+module _ (R : RunInTime) (k : ℕ) where
   abbrev after_reply : Request → Reply → ℕ → Option ℕ
   after_reply q y w = open_after (sight_of (page_graph (R.state (suc k))) q y) k w (open_at R k w)
 
   open_is : (q : Request) (y : Reply) (w : ℕ) → R.request k ≡ q → reply_of (R.state k) q ≡ y → open_at R (suc k) w ≡ after_reply q y w
   open_is q y w e f = open_next R k w ∙ ap (λ x. after_reply x (reply_of (R.state k) x) w) e ∙ ap (λ x. after_reply q x w) f
 
-  -- a refusal changes nothing
-  pub refused_keeps : (q : Request) (x : Refusal) (w : ℕ) → R.request k ≡ q → reply_of (R.state k) q ≡ reply.Refused x → open_at R (suc k) w ≡ open_at R k w
-  refused_keeps (request.Begin b) x w e f = open_is (request.Begin b) (reply.Refused x) w e f
-  refused_keeps (request.Turn v) x w e f = open_is (request.Turn v) (reply.Refused x) w e f
+  -- what neither begins a call nor gives a turn changes nothing
+  pub rests_keep : (w : ℕ) → acts (R.request k) (reply_of (R.state k) (R.request k)) ≡ false → open_at R (suc k) w ≡ open_at R k w
+  rests_keep w f = open_next R k w ∙ ap (λ s. open_after s k w (open_at R k w)) (rest_unseen (page_graph (R.state (suc k))) (R.request k) (reply_of (R.state k) (R.request k)) f)
 
   -- an accepted begin opens a call of its worker
   module _ (b : Begin) (e : R.request k ≡ request.Begin b) (f : reply_of (R.state k) (request.Begin b) ≡ reply.Done) where

@@ -8,25 +8,20 @@ use Rattle.layout.specs.declared.names.Field.TheVariants.{Ins, Del}
 use Rattle.places.specs.declared.place.Survey.{Survey}
 use Rattle.places.specs.declared.place.Place.TheVariants as place
 use Rattle.places.specs.declared.place.Change.{Change}
-use Rattle.laws.specs.Sound.{RunsSound, RunsKeepLaws}
-use Rattle.laws.specs.Stamps.{RunsStamp}
 use Rattle.order.specs.Marks.{Mark, Marks}
 use Rattle.order.specs.Raises.{Settled, AllSettled}
-use Rattle.runs.specs.Runs.{Run}
+use Rattle.runs.specs.Runs.{RunInTime}
 use Rattle.runs.specs.Views.{clock_at, LinkedAt}
-use Rattle.runs.specs.Steps.{TurnAt, RunsStep}
-use Rattle.runs.specs.Times.{RunsLast}
-use Rattle.runs.specs.Known.{Stamped, LinkEvent, EndEvent}
-use Rattle.runs.specs.Reasons.{RunsKnow}
-use Rattle.runs.specs.Events.{RunsEvents}
-use Rattle.runs.specs.Marking.{ins_of, del_of, MarksTell}
+use Rattle.runs.specs.Steps.{TurnAt}
+use Rattle.runs.specs.Known.{StampedAt, LinkEvent, EndEvent}
+use Rattle.runs.specs.Marking.{ins_of, del_of, MarksTellRun}
 use Rattle.runs.specs.Settling.{RunsSettle}
 use Rattle.runs.proofs.Events.{same_turn}
 use Rattle.runs.proofs.Births.{Birth, Way, Way.from_start, Way.by_link, End, born_or, ended_or, link_now, end_now}
 use Rattle.runs.proofs.VertexFinds.{birth_tells}
 use Rattle.runs.proofs.Starts.{old_marks}
 
-module _ (sound : RunsSound) (keep : RunsKeepLaws) (stamps : RunsStamp) (step : RunsStep) (last : RunsLast) (know : RunsKnow) (events : RunsEvents) (R : Run) (N : ℕ) (m : Marks) (tell : MarksTell R N m)
+module _ (R : RunInTime) (N : ℕ) (m : Marks) (tell : MarksTellRun R N m)
     (r w : ℕ) (v : Survey) (raise : TurnAt R r w (place.Raise v)) where
   abbrev Settles : Mark → Type 0
   Settles x = Settled (clock_at R) r (clock_at R N) x
@@ -45,40 +40,40 @@ module _ (sound : RunsSound) (keep : RunsKeepLaws) (stamps : RunsStamp) (step : 
 
   not_link : (p b e : ℕ) (d : Change) → LinkEvent R p b d e → p ≢ r
   not_link p b e d ev x =
-      let t = same_turn sound keep stamps step last know R (subst (λ k. TurnAt R k w (place.Raise v)) (sym x) raise) ev.step.turn in
+      let t = same_turn R (subst (λ k. TurnAt R k w (place.Raise v)) (sym x) raise) ev.step.turn in
       let q = t.1 in
       absurd cc
 
   not_end : (p b e : ℕ) (d : Change) → EndEvent R p b d e → p ≢ r
   not_end p b e d ev x =
-      let t = same_turn sound keep stamps step last know R (subst (λ k. TurnAt R k w (place.Raise v)) (sym x) raise) ev.turn in
+      let t = same_turn R (subst (λ k. TurnAt R k w (place.Raise v)) (sym x) raise) ev.turn in
       let q = t.1 in
       absurd cc
 
   ins_settled : (c : Kind) (e : ℕ) → Settles (ins_of m c e)
-  ins_settled c e = go (born_or sound keep stamps step last know events R N c e)
+  ins_settled c e = go (born_or R N c e)
     where
-      by_way : (p n : ℕ) → Way sound keep stamps step last know events R N c e p n → ins_of m c e ≡ record { stamp = n; time = p } → Settles (ins_of m c e)
-      by_way p n (from_start o a b) i l = let x = old_marks sound keep stamps step last know events R N m tell c e o in (inl x, λ y. omega (arith, late, x.0, y))
+      by_way : (p n : ℕ) → Way R N c e p n → ins_of m c e ≡ record { stamp = n; time = p } → Settles (ins_of m c e)
+      by_way p n (from_start o a b) i l = let x = old_marks R N m tell c e o in (inl x, λ y. omega (arith, late, x.0, y))
       by_way p n (by_link h) i l =
           let s : (ins_of m c e).stamp ≡ n = ap (λ (x : Mark). x.stamp) i in
           let t : (ins_of m c e).time ≡ p = ap (λ (x : Mark). x.time) i in (
-            inr (subst (λ (x : Mark). clock_at R x.time ≤ x.stamp) (sym i) (link_now sound keep stamps step last know events R N c e p n h).0),
+            inr (subst (λ (x : Mark). clock_at R x.time ≤ x.stamp) (sym i) (link_now R N c e p n h).0),
             λ y. not_link p h.linking.began e h.linking.change h.linking.event (sym t ∙ y),
           )
 
-      go : Birth sound keep stamps step last know events R N c e ⊎ ¬ (LinkedAt R N c e × Stamped R N c Ins e) → Settles (ins_of m c e)
-      go (inl h) l = by_way h.time h.stamp h.way (birth_tells sound keep stamps step last know events R N m tell c e h) l
+      go : Birth R N c e ⊎ ¬ (LinkedAt R N c e × StampedAt R N c Ins e) → Settles (ins_of m c e)
+      go (inl h) l = by_way h.time h.stamp h.way (birth_tells R N m tell c e h) l
       go (inr n) l = let s : (ins_of m c e).stamp ≡ clock_at R N + 2 = ap (λ (x : Mark). x.stamp) (tell.unborn c e n) in absurd (omega arith)
 
   del_settled : (c : Kind) (e : ℕ) → Settles (del_of m c e)
-  del_settled c e = go (ended_or sound keep stamps step last know events R N c e)
+  del_settled c e = go (ended_or R N c e)
     where
-      go : End sound keep stamps step last know events R N c e ⊎ ¬ (LinkedAt R N c e × Stamped R N c Del e) → Settles (del_of m c e)
+      go : End R N c e ⊎ ¬ (LinkedAt R N c e × StampedAt R N c Del e) → Settles (del_of m c e)
       go (inl h) l =
           let i = tell.ended c e h.time h.stamp h.linked h.ending h.is in
           let t : (del_of m c e).time ≡ h.time = ap (λ (x : Mark). x.time) i in (
-            inr (subst (λ (x : Mark). clock_at R x.time ≤ x.stamp) (sym i) (end_now sound keep stamps step last know events R N c e h).0),
+            inr (subst (λ (x : Mark). clock_at R x.time ≤ x.stamp) (sym i) (end_now R N c e h).0),
             λ y. not_end h.time h.ending.began e h.ending.change h.ending.event (sym t ∙ y),
           )
       go (inr n) l = let s : (del_of m c e).stamp ≡ clock_at R N + 1 = ap (λ (x : Mark). x.stamp) (tell.unended c e n) in absurd (omega arith)
@@ -86,5 +81,5 @@ module _ (sound : RunsSound) (keep : RunsKeepLaws) (stamps : RunsStamp) (step : 
   pub all_settled : AllSettled (clock_at R) r (clock_at R N) m
   all_settled = record { vertex_ins = ins_settled Vertex; vertex_del = del_settled Vertex; edge_ins = ins_settled Edge; edge_del = del_settled Edge }
 
-pub runs_settle : RunsSound → RunsKeepLaws → RunsStamp → RunsStep → RunsLast → RunsKnow → RunsEvents → RunsSettle
-runs_settle sound keep stamps step last know events R now m tell r w v raise = all_settled sound keep stamps step last know events R now m tell r w v raise
+pub runs_settle : RunsSettle
+runs_settle R now m tell r w v raise = all_settled R now m tell r w v raise

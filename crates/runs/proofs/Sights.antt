@@ -9,25 +9,27 @@ use Rattle.places.specs.declared.place.Call.{Call}
 use Rattle.places.specs.declared.place.Place.{Place}
 use Rattle.places.specs.declared.place.Place.TheVariants as place
 use Rattle.places.specs.Calls.{keys_fit, weight_fits, call_named, call_of}
-use Rattle.stepper.specs.declared.request.Request.{Request}
-use Rattle.stepper.specs.declared.request.Request.TheVariants as request
-use Rattle.stepper.specs.declared.request.Reply.{Reply}
-use Rattle.stepper.specs.declared.request.Reply.TheVariants as reply
-use Rattle.stepper.specs.Turns.{answer_at}
-use Rattle.stepper.specs.Requests.{is_idle, done_or, answered_or, reply_of}
-use Rattle.laws.specs.Sound.{RunsSound, RunsKeepLaws}
-use Rattle.laws.specs.Stamps.{RunsStamp}
+use Rattle.machine.specs.declared.request.Request.{Request}
+use Rattle.machine.specs.declared.request.Request.TheVariants as request
+use Rattle.machine.specs.declared.request.Reply.{Reply}
+use Rattle.machine.specs.declared.request.Reply.TheVariants as reply
+use Rattle.machine.specs.Turns.{answer_at}
+use Rattle.machine.specs.Requests.{is_idle, done_or, answered_or, reply_of}
 use Rattle.questions.specs.Graph.{Graph}
-use Rattle.order.specs.Seen.{Sight, Sight.begins, Sight.finishes, Sight.neither, PastsSeen}
-use Rattle.runs.specs.Runs.{Run}
+use Rattle.order.specs.Seen.{CallSight, CallSight.begins, CallSight.finishes, CallSight.neither}
+use Rattle.laws.proofs.Taken.{ok_if, BeginTaken, begin_taken}
+use Rattle.runs.specs.Runs.{RunInTime}
 use Rattle.runs.specs.Views.{place_at}
 use Rattle.runs.specs.Seen.{page_graph, sight_of, seen, open_at}
 use Rattle.runs.specs.Purposes.{InCall}
-use Rattle.runs.specs.Reasons.{BegunBy, WorkerKnows, WorkerKnows.free, WorkerKnows.busy, RunsKnow}
+use Rattle.runs.specs.Reasons.{BegunBy, WorkerKnows, WorkerKnows.free, WorkerKnows.busy}
 use Rattle.runs.specs.Sights.{AnswerAt, SeenLaws, RunsSeen}
-use Rattle.runs.proofs.Steps.{StepCase, StepCase.keeps, StepCase.begins, StepCase.turns, BeginTaken, begin_taken, ok_if, sizes_at, case_at}
+use Rattle.runs.proofs.Steps.{StepCase, StepCase.rests, StepCase.begins, StepCase.turns, sizes_at, case_at}
+use Rattle.runs.proofs.Opens.{rest_unseen}
+use Rattle.runs.proofs.Knows.{runs_know as know}
+use Rattle.order.proofs.Seen.{pasts_seen as pasts}
 
-one_call_of : (x y : Call) → ◌≡◌ {A = Result Call Refusal} (Ok x) (Ok y) → x ≡ y
+pub one_call_of : (x y : Call) → ◌≡◌ {A = Result Call Refusal} (Ok x) (Ok y) → x ≡ y
 one_call_of x y e = cc
 
 -- the call that is begun is the one that the request names
@@ -44,17 +46,13 @@ idle_no_call place.Idle c e i = i
 idle_no_call p c e i = absurd cc
 
 -- the sight of a begin
-abbrev begin_sight : ℕ → Call → Sight
+abbrev begin_sight : ℕ → Call → CallSight
 begin_sight w c = begins w c
 
 same_worker : {v w : ℕ} {c d : Call} → begin_sight v c ≡ begin_sight w d → v ≡ w
 same_worker e = cc
 
-refused_neither : (pages : ℕ → Graph) (q : Request) (x : Refusal) → sight_of pages q (reply.Refused x) ≡ neither
-refused_neither pages (request.Begin b) x = refl
-refused_neither pages (request.Turn w) x = refl
-
-module _ (sound : RunsSound) (keep : RunsKeepLaws) (stamps : RunsStamp) (know : RunsKnow) (pasts : PastsSeen) (R : Run) where
+module _ (R : RunInTime) where
   abbrev pages : ℕ → ℕ → Graph
   pages k = page_graph (R.state (suc k))
 
@@ -62,10 +60,10 @@ module _ (sound : RunsSound) (keep : RunsKeepLaws) (stamps : RunsStamp) (know : 
   seen_as k q y e f = ap₂ (sight_of (page_graph (R.state (suc k)))) e f
 
   one_call : (k w : ℕ) (c : Call) → seen R k ≡ begin_sight w c → open_at R k w ≡ None
-  one_call k w c e = go (case_at sound keep stamps R k)
+  one_call k w c e = go (case_at R k)
     where
       taken : (b : Begin) (d : Call) → BeginTaken (R.state k) b d → b.worker ≡ w → open_at R k w ≡ None
-      taken b d t s = known ((know R).workers k w (subst (λ u. u < R.sizes.workers) s (subst (λ z. b.worker < z.workers) (sizes_at sound keep stamps R k) t.within)))
+      taken b d t s = known ((know R).workers k w (subst (λ u. u < R.sizes.workers) s (subst (λ z. b.worker < z.workers) (sizes_at R k) t.within)))
         where
           known : WorkerKnows R k w → open_at R k w ≡ None
           known (free o i) = o
@@ -76,7 +74,7 @@ module _ (sound : RunsSound) (keep : RunsKeepLaws) (stamps : RunsStamp) (know : 
       answered v (Some a) f = cc
 
       go : StepCase (R.state k) (R.request k) (R.state (suc k)) → open_at R k w ≡ None
-      go (keeps x f s) = let z : neither ≡ begin_sight w c = sym (seen_as k (R.request k) (reply.Refused x) refl f ∙ refused_neither _ (R.request k) x) ∙ e in absurd cc
+      go (rests f s) = let z : neither ≡ begin_sight w c = sym (rest_unseen (page_graph (R.state (suc k))) (R.request k) (reply_of (R.state k) (R.request k)) f) ∙ e in absurd cc
       go (begins b d q a f s) = taken b d (begin_taken (R.state k) b d a) (same_worker (sym (seen_as k (request.Begin b) reply.Done q f) ∙ e))
       go (turns v q n f s) = absurd (answered v (answer_at (R.state k) v) (sym (seen_as k (request.Turn v) _ q f) ∙ e))
 
@@ -86,30 +84,19 @@ module _ (sound : RunsSound) (keep : RunsKeepLaws) (stamps : RunsStamp) (know : 
       seen_as b (request.Begin g.begin) reply.Done g.asked (ap (reply_of (R.state b)) g.asked ∙ ap done_or g.call) ∙ ap₂ begin_sight g.worker (named_call (R.state b).sizes.keys g.begin c t.call)
 
   was_answered : (k w : ℕ) (a : Answer) (g : Graph) → seen R k ≡ finishes w a g → AnswerAt R k w a g
-  was_answered k w a g e = go (R.request k) refl (reply_of (R.state k) (R.request k)) refl
+  was_answered k w a g e = answered (R.request k) refl (reply_of (R.state k) (R.request k)) refl e
     where
-      go : (q : Request) → R.request k ≡ q → (y : Reply) → reply_of (R.state k) (R.request k) ≡ y → AnswerAt R k w a g
-      go (request.Begin b) f y h = absurd (not_begin y (sym (seen_as k (request.Begin b) y f h) ∙ e))
-        where
-          not_begin : (y : Reply) → sight_of (page_graph (R.state (suc k))) (request.Begin b) y ≡ finishes w a g → ⊥
-          not_begin reply.Done z = cc
-          not_begin reply.Running z = cc
-          not_begin (reply.Answered x) z = cc
-          not_begin (reply.Refused x) z = cc
-      go (request.Turn v) f y h = turned y h (sym (seen_as k (request.Turn v) y f h) ∙ e)
-        where
-          turned : (y : Reply) → reply_of (R.state k) (R.request k) ≡ y → sight_of (page_graph (R.state (suc k))) (request.Turn v) y ≡ finishes w a g → AnswerAt R k w a g
-          turned reply.Done h z = absurd cc
-          turned reply.Running h z = absurd cc
-          turned (reply.Refused x) h z = absurd cc
-          turned (reply.Answered x) h z =
-              let s : v ≡ w = cc in
-              let t : x ≡ a = cc in
-              let u : page_graph (R.state (suc k)) v ≡ g = cc in
-              record { asked = f ∙ ap request.Turn s; reply = ap (reply_of (R.state k)) (sym (f ∙ ap request.Turn s)) ∙ h ∙ ap reply.Answered t; page = sym u ∙ ap (page_graph (R.state (suc k))) s }
+      answered : (q : Request) → R.request k ≡ q → (y : Reply) → reply_of (R.state k) (R.request k) ≡ y → sight_of (page_graph (R.state (suc k))) q y ≡ finishes w a g → AnswerAt R k w a g
+      answered (request.Begin b) f reply.Done h z = absurd cc
+      answered (request.Turn v) f (reply.Answered x) h z =
+          let s : v ≡ w = cc in
+          let t : x ≡ a = cc in
+          let u : page_graph (R.state (suc k)) v ≡ g = cc in
+          record { asked = f ∙ ap request.Turn s; reply = ap (reply_of (R.state k)) (sym (f ∙ ap request.Turn s)) ∙ h ∙ ap reply.Answered t; page = sym u ∙ ap (page_graph (R.state (suc k))) s }
+      answered q f y h z = absurd cc
 
   pub seen_laws : SeenLaws R
   seen_laws = record { one_at_a_time = one_call; pasts = pasts (seen R) one_call; begun = was_seen; finished = was_answered }
 
-pub runs_seen : RunsSound → RunsKeepLaws → RunsStamp → RunsKnow → PastsSeen → RunsSeen
-runs_seen sound keep stamps know pasts R = seen_laws sound keep stamps know pasts R
+pub runs_seen : RunsSeen
+runs_seen R = seen_laws R

@@ -10,31 +10,26 @@ use Rattle.layout.specs.declared.names.Cell.TheVariants as cell
 use Rattle.layout.specs.Layout.{Named}
 use Rattle.layout.specs.Rows.{rows_all}
 use Rattle.places.specs.Touches.{head_kind}
-use Rattle.laws.specs.Sound.{RunsSound, RunsKeepLaws}
-use Rattle.laws.specs.Stamps.{RunsStamp}
-use Rattle.laws.specs.Clean.{OpeningsClean}
 use Rattle.laws.proofs.Clean.{head_none}
 use Rattle.questions.specs.Graph.{Graph}
 use Rattle.order.specs.Marks.{Mark, Old, Marks}
 use Rattle.order.specs.Raises.{Joins}
-use Rattle.runs.specs.Runs.{Run}
+use Rattle.runs.specs.Runs.{RunInTime}
 use Rattle.runs.specs.Views.{number_at, clock_at, head_at, LinkedAt}
-use Rattle.runs.specs.Steps.{RunsStep}
-use Rattle.runs.specs.Times.{RunsLast}
-use Rattle.runs.specs.Known.{Stamped}
-use Rattle.runs.specs.Reasons.{RunsKnow}
-use Rattle.runs.specs.Events.{RunsEvents}
-use Rattle.runs.specs.Marking.{ins_of, del_of, MarksTell}
+use Rattle.runs.specs.Known.{StampedAt}
+use Rattle.runs.specs.Marking.{ins_of, del_of, MarksTellRun}
 use Rattle.runs.specs.Starts.{ShowsGraph, OpeningsEmpty, RunsStartShown}
-use Rattle.runs.proofs.Links.{linked_is_row}
 use Rattle.runs.proofs.Heads.{row_pos}
 use Rattle.runs.proofs.Events.{clock_later, end_late, link_late, old_linked}
 use Rattle.runs.proofs.EdgeEvents.{old_edge_of}
 use Rattle.runs.proofs.Births.{Birth, Way, Way.from_start, Way.by_link, End, born_or, ended_or}
 use Rattle.runs.proofs.VertexFinds.{birth_tells}
+use Rattle.runs.proofs.Times.{runs_last as last}
+use Rattle.laws.proofs.Clean.{openings_clean as clean}
+use Rattle.laws.proofs.Owned.{linked_row}
 
-pub openings_empty : OpeningsClean → OpeningsEmpty
-openings_empty clean z cs l = (
+pub openings_empty : OpeningsEmpty
+openings_empty z cs l = (
   clean z cs l,
   record {
     vertices = λ i. (λ e. absurd cc, λ x. absurd (omega (arith, x.1, head_none z cs l (head.Vertex i) x.0)));
@@ -42,40 +37,40 @@ openings_empty clean z cs l = (
   },
 )
 
-module _ (sound : RunsSound) (keep : RunsKeepLaws) (stamps : RunsStamp) (step : RunsStep) (last : RunsLast) (know : RunsKnow) (events : RunsEvents) (R : Run) (N : ℕ) (m : Marks) (tell : MarksTell R N m) where
+module _ (R : RunInTime) (N : ℕ) (m : Marks) (tell : MarksTellRun R N m) where
   -- a row with an old mark is from before the start
   old_row_of : (c : Kind) (r : ℕ) → Old (clock_at R) (ins_of m c r) → LinkedAt R 0 c r
-  old_row_of c r o = go (born_or sound keep stamps step last know events R N c r)
+  old_row_of c r o = go (born_or R N c r)
     where
-      by_way : (p n : ℕ) → Way sound keep stamps step last know events R N c r p n → ins_of m c r ≡ record { stamp = n; time = p } → LinkedAt R 0 c r
+      by_way : (p n : ℕ) → Way R N c r p n → ins_of m c r ≡ record { stamp = n; time = p } → LinkedAt R 0 c r
       by_way p n (from_start l a b) e = l
       by_way p n (by_link x) e =
           let t : (ins_of m c r).time ≡ p = ap (λ (x : Mark). x.time) e in
-          absurd (omega (arith, link_late sound keep stamps step last know R x.linking.event, t, o.0))
+          absurd (omega (arith, link_late R x.linking.event, t, o.0))
 
-      go : Birth sound keep stamps step last know events R N c r ⊎ ¬ (LinkedAt R N c r × Stamped R N c Ins r) → LinkedAt R 0 c r
-      go (inl h) = by_way h.time h.stamp h.way (birth_tells sound keep stamps step last know events R N m tell c r h)
+      go : Birth R N c r ⊎ ¬ (LinkedAt R N c r × StampedAt R N c Ins r) → LinkedAt R 0 c r
+      go (inl h) = by_way h.time h.stamp h.way (birth_tells R N m tell c r h)
       go (inr n) =
           let s : (ins_of m c r).stamp ≡ clock_at R N + 2 = ap (λ (x : Mark). x.stamp) (tell.unborn c r n) in
-          absurd (omega (arith, s, o.1, clock_later sound keep stamps step last know R 0 N (omega arith)))
+          absurd (omega (arith, s, o.1, clock_later R 0 N (omega arith)))
 
   pub old_marks : (c : Kind) (r : ℕ) → LinkedAt R 0 c r → Old (clock_at R) (ins_of m c r)
   old_marks Vertex r l = rw (tell.old Vertex r l) (refl, omega arith)
   old_marks Edge r l = rw (tell.old Edge r l) (refl, omega arith)
 
   none_old : (c : Kind) (r : ℕ) → ¬ (Old (clock_at R) (del_of m c r))
-  none_old c r o = go (ended_or sound keep stamps step last know events R N c r)
+  none_old c r o = go (ended_or R N c r)
     where
-      go : End sound keep stamps step last know events R N c r ⊎ ¬ (LinkedAt R N c r × Stamped R N c Del r) → ⊥
+      go : End R N c r ⊎ ¬ (LinkedAt R N c r × StampedAt R N c Del r) → ⊥
       go (inl h) =
           let t : (del_of m c r).time ≡ h.time = ap (λ (x : Mark). x.time) (tell.ended c r h.time h.stamp h.linked h.ending h.is) in
-          omega (arith, end_late sound keep stamps step last know R h.ending.event, t, o.0)
+          omega (arith, end_late R h.ending.event, t, o.0)
       go (inr n) =
           let s : (del_of m c r).stamp ≡ clock_at R N + 1 = ap (λ (x : Mark). x.stamp) (tell.unended c r n) in
-          omega (arith, s, o.1, clock_later sound keep stamps step last know R 0 N (omega arith))
+          omega (arith, s, o.1, clock_later R 0 N (omega arith))
 
   in_rows : (c : Kind) (r : ℕ) → LinkedAt R 0 c r → r < suc (rows_all R.sizes c)
-  in_rows c r l = let e : rows_all (R.state 0).sizes c ≡ rows_all R.sizes c = ap (λ (z : Sizes). rows_all z c) R.start in omega (arith, (linked_is_row (R.state 0) c r l).1)
+  in_rows c r l = let e : rows_all (R.state 0).sizes c ≡ rows_all R.sizes c = ap (λ (z : Sizes). rows_all z c) R.start in omega (arith, (linked_row (R.state 0) c r l).1)
 
   key_in : (i : ℕ) → i < (R.state 0).sizes.keys → i < R.sizes.keys
   key_in i l = subst (λ (z : Sizes). i < z.keys) R.start l
@@ -98,7 +93,7 @@ module _ (sound : RunsSound) (keep : RunsKeepLaws) (stamps : RunsStamp) (step : 
     vertex_shown i = (
       λ e. (let x = (shows.vertices i).0 e in
           let k = key_in i x.0 in
-          let l = old_linked sound keep stamps step last know R i _ k refl x.1 in
+          let l = old_linked R i _ k refl x.1 in
           (head_at R 0 (head.Vertex i), omega (arith, tell.vertices, in_rows Vertex _ l), old_marks Vertex _ l, tell.old_key i _ k refl x.1)),
       λ x. (let l = old_row_of Vertex x.0 x.2 in
           let y = vertex_by_key x.0 i l x.3 in
@@ -108,7 +103,7 @@ module _ (sound : RunsSound) (keep : RunsKeepLaws) (stamps : RunsStamp) (step : 
     -- an edge row from before the start, by its keys
     edge_by_keys : (e i j : ℕ) → LinkedAt R 0 Edge e → m.key_of (m.source e) ≡ i → m.key_of (m.target e) ≡ j → (i < R.sizes.keys) × (j < R.sizes.keys) × (head_at R 0 (head.Edge i j) ≡ e)
     edge_by_keys e i j l p q =
-        let o = old_edge_of sound keep stamps step last know R e l in
+        let o = old_edge_of R e l in
         let laws = (last R).times 0 N (omega arith) in
         let s : m.source e ≡ number_at R 0 (cell.Source e) = tell.source e ∙ laws.source e l in
         let t : m.target e ≡ number_at R 0 (cell.Target e) = tell.target e ∙ laws.target e l in
@@ -137,19 +132,19 @@ module _ (sound : RunsSound) (keep : RunsKeepLaws) (stamps : RunsStamp) (step : 
           (head_at R 0 (head.Edge i j), omega (arith, tell.edges, in_rows Edge _ l), old_marks Edge _ l, record { from = o.0; to = o.1; weight = o.2 ∙ x.3 })),
       λ x. (let l = old_row_of Edge x.0 x.2 in
           let y = edge_by_keys x.0 i j l x.3.from x.3.to in
-          let pos : 1 ≤ x.0 = (linked_is_row (R.state 0) Edge x.0 l).0 in
+          let pos : 1 ≤ x.0 = (linked_row (R.state 0) Edge x.0 l).0 in
           let o = edge_joins i j x.0 y.0 y.1 y.2 l pos in
           (shows.edges i j w).1 (key_back i y.0, key_back j y.1, omega (arith, y.2, pos), ap (λ q. number_at R 0 (cell.Weight q)) y.2 ∙ sym o.2 ∙ x.3.weight)),
     )
 
-pub runs_start_shown : RunsSound → RunsKeepLaws → RunsStamp → RunsStep → RunsLast → RunsKnow → RunsEvents → RunsStartShown
-runs_start_shown sound keep stamps step last know events R now g shows x same tell = (
+pub runs_start_shown : RunsStartShown
+runs_start_shown R now g shows x same tell = (
   record {
-    vertices = λ i. subst (λ (c : ℕ → ℕ). (g.has i ≡ true) ↔ ((v : ℕ) × (v < x.marks.vertices) × Old c (x.marks.vertex_ins v) × (x.marks.key_of v ≡ i))) (sym same) (vertex_shown sound keep stamps step last know events R now x.marks tell g shows i);
-    edges = λ i j w. subst (λ (c : ℕ → ℕ). (g.edge i j ≡ Some w) ↔ ((e : ℕ) × (e < x.marks.edges) × Old c (x.marks.edge_ins e) × Joins x.marks e i j w)) (sym same) (edge_shown sound keep stamps step last know events R now x.marks tell g shows i j w);
+    vertices = λ i. subst (λ (c : ℕ → ℕ). (g.has i ≡ true) ↔ ((v : ℕ) × (v < x.marks.vertices) × Old c (x.marks.vertex_ins v) × (x.marks.key_of v ≡ i))) (sym same) (vertex_shown R now x.marks tell g shows i);
+    edges = λ i j w. subst (λ (c : ℕ → ℕ). (g.edge i j ≡ Some w) ↔ ((e : ℕ) × (e < x.marks.edges) × Old c (x.marks.edge_ins e) × Joins x.marks e i j w)) (sym same) (edge_shown R now x.marks tell g shows i j w);
   },
   record {
-    vertices = λ v o. none_old sound keep stamps step last know events R now x.marks tell Vertex v (subst (λ (c : ℕ → ℕ). Old c (x.marks.vertex_del v)) same o);
-    edges = λ e o. none_old sound keep stamps step last know events R now x.marks tell Edge e (subst (λ (c : ℕ → ℕ). Old c (x.marks.edge_del e)) same o);
+    vertices = λ v o. none_old R now x.marks tell Vertex v (subst (λ (c : ℕ → ℕ). Old c (x.marks.vertex_del v)) same o);
+    edges = λ e o. none_old R now x.marks tell Edge e (subst (λ (c : ℕ → ℕ). Old c (x.marks.edge_del e)) same o);
   },
 )

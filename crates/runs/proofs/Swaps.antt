@@ -11,14 +11,15 @@ use Rattle.places.specs.declared.place.Place.{Place}
 use Rattle.places.specs.declared.place.Touch.TheVariants as touch
 use Rattle.places.specs.Marks.{pending, mark_of}
 use Rattle.places.specs.Moved.{Next, Next as next}
-use Rattle.places.specs.Outs.{Out}
-use Rattle.stepper.specs.States.{State}
-use Rattle.stepper.specs.Effects.{got_of, cells_after, entered}
-use Rattle.stepper.specs.Turns.{worker_at, cell_at, hand_at, touch_at, next_at, turned}
-use Rattle.stepper.specs.Workers.{followed}
+use Rattle.places.specs.Flows.{Flow}
+use Rattle.machine.specs.States.{State}
+use Rattle.machine.specs.Effects.{got_of, cells_after, entered}
+use Rattle.machine.specs.Turns.{worker_at, cell_at, hand_at, touch_at, next_at, turned}
+use Rattle.machine.specs.Workers.{followed}
 use Rattle.laws.specs.Changes.{number_in}
 use Rattle.laws.specs.Sound.{Sound}
-use Rattle.runs.proofs.Turns.{touch_from, touch_is, is_done}
+use Rattle.runs.proofs.Turns.{touch_from, touch_is}
+use Rattle.laws.proofs.Puts.{done_is}
 
 pub mark_zero : (n : ℕ) → eqb n 0 ≡ false → ¬ (mark_of n ≡ NotEnded)
 mark_zero n e m = go (eqb n pending) (rw e at m)
@@ -40,13 +41,13 @@ module _ (s : State) (w : ℕ) (z : Sound s) where
 
   -- the swap is done where the cell holds the old number
   pub swap_done : (c : Cell) (old new : ℕ) → Named s.sizes c → is_some (got_of s.sizes s.cells (touch.Swap c old new)) ≡ eqb (number_in s c) old
-  swap_done c old new n = rw (lt-ltb (index_of s.sizes c) (length s.cells) (in_cells c n)) (is_done (eqb (number_in s c) old) old)
+  swap_done c old new n = rw (lt-ltb (index_of s.sizes c) (length s.cells) (in_cells c n)) (done_is (eqb (number_in s c) old) old)
 
   abbrev cells_from : Next → List ℕ
   cells_from x = entered s.sizes w (cells_after s.sizes s.cells (touch_at s w)) (followed s.sizes.keys (worker_at s w) (hand_at s w) x).entry
 
   -- the cell is the new number where it was the old one
-  pub swap_number : (p : Place) → (worker_at s w).place ≡ p → (c : Cell) (old new : ℕ) → touch_from s w p ≡ touch.Swap c old new → (o : Out) → next_at s w ≡ next.Out o → Named s.sizes c → number_in (turned s w) c ≡ cond (eqb (number_in s c) old) new (number_in s c)
+  pub swap_number : (p : Place) → (worker_at s w).place ≡ p → (c : Cell) (old new : ℕ) → touch_from s w p ≡ touch.Swap c old new → (o : Flow) → next_at s w ≡ next.Moved o → Named s.sizes c → number_in (turned s w) c ≡ cond (eqb (number_in s c) old) new (number_in s c)
   swap_number p e c old new t o x n =
       ap (λ y. cell_at s.sizes (cells_from y) c) x ∙ ap (λ y. cell_at s.sizes (cells_after s.sizes s.cells y) c) (touch_is s w p e ∙ t) ∙ go (eqb (number_in s c) old)
     where

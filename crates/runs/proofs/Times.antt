@@ -1,5 +1,5 @@
 -- What holds of a run from one time to a later one, by induction over time.
-use Rattle.std.proofs.Common.{◌≡◌, ℕ, zero, suc, ◌<◌, ◌≤◌, ◌⊎◌, get_or, replicate, sym, refl, ap, ◌∙◌, subst, inl, inr, ⊎_elim, arith}
+use Rattle.std.proofs.Common.{◌≡◌, ℕ, zero, suc, ◌<◌, ◌≤◌, ◌⊎◌, sym, refl, ap, ◌∙◌, subst, inl, inr, ⊎_elim, arith}
 use Rattle.std.proofs.lemmas.Bool.{cases_lt}
 use Rattle.layout.specs.declared.names.Kind.{Kind}
 use Rattle.layout.specs.declared.names.Kind.TheVariants.{Edge}
@@ -15,13 +15,14 @@ use Rattle.places.specs.Touches.{change_head, head_kind}
 use Rattle.places.specs.Marks.{mark_of, pending}
 use Rattle.laws.specs.Clean.{IsStamp, Stands}
 use Rattle.laws.proofs.Clean.{top_of, clean_heads}
-use Rattle.laws.specs.Stamps.{Holds, Holds.not_ended, Holds.waits, Holds.stamped, StampLaws, RunsStamp}
-use Rattle.runs.specs.Runs.{Run, history_at}
+use Rattle.laws.specs.Stamps.{Holds, Holds.not_ended, Holds.waits, Holds.stamped}
+use Rattle.runs.specs.Runs.{RunInTime}
 use Rattle.runs.specs.Views.{number_at, clock_at, head_at, mark_at, LinkedAt}
-use Rattle.runs.specs.Steps.{HeadSteps, HeadSteps.stays, HeadSteps.moves, MarkSteps, MarkSteps.same, MarkSteps.settled, MarkSteps.ended, Links, RunsStep}
-use Rattle.runs.specs.Times.{Past, LinkedBy, TimeLaws, OldRow, LastingLaws, RunsLast}
-use Rattle.runs.proofs.Histories.{traced}
+use Rattle.runs.specs.Steps.{HeadSteps, HeadSteps.stays, HeadSteps.moves, MarkSteps, MarkSteps.same, MarkSteps.settled, MarkSteps.ended, LinkStepOfKind}
+use Rattle.runs.specs.Times.{Before, LinkStepAtHead, TimeLaws, OldRow, LastingLaws, RunsLast}
 use Rattle.runs.proofs.TurnSteps.{mark_stamp}
+use Rattle.runs.proofs.Steps.{stamps_at, runs_step as step}
+use Rattle.laws.proofs.StampRuns.{runs_stamp as stamp}
 
 -- what each step keeps holds at each later time
 pub kept_from : (P : ℕ → Type 0) (t : ℕ) → P t → ((j : ℕ) → t ≤ j → P j → P (suc j)) → (u : ℕ) → t ≤ u → P u
@@ -30,20 +31,20 @@ kept_from P t h more (suc u) l =
     ⊎_elim (λ (a : t < suc u). more u (omega arith) (kept_from P t h more u (omega arith)))
     (λ (a : suc u ≤ t). let e : t ≡ suc u = omega arith in subst P e h) (cases_lt t (suc u))
 
-pub past_later : {k u : ℕ} {P : ℕ → Type 0} → k ≤ u → Past k P → Past u P
-past_later l h = record { time = h.time; before = omega arith; held = h.held }
+pub before_later : {k u : ℕ} {P : ℕ → Type 0} → k ≤ u → Before k P → Before u P
+before_later l h = record { time = h.time; before = omega arith; held = h.held }
 
-pub stamp_step : {R : Run} {k : ℕ} {c : Kind} {f : Field} {r n : ℕ} {x y : Mark} → MarkSteps R k c f r x y → x ≡ Stamp n → y ≡ Stamp n
+pub stamp_step : {R : RunInTime} {k : ℕ} {c : Kind} {f : Field} {r n : ℕ} {x y : Mark} → MarkSteps R k c f r x y → x ≡ Stamp n → y ≡ Stamp n
 stamp_step (same e) s = e ∙ s
 stamp_step (settled w n p a e i q g) s = absurd cc
 stamp_step (ended w d a e i q g) s = absurd cc
 
-pub begun_step : {R : Run} {k : ℕ} {c : Kind} {f : Field} {r : ℕ} {x y : Mark} → MarkSteps R k c f r x y → ¬ (x ≡ NotEnded) → ¬ (y ≡ NotEnded)
+pub begun_step : {R : RunInTime} {k : ℕ} {c : Kind} {f : Field} {r : ℕ} {x y : Mark} → MarkSteps R k c f r x y → ¬ (x ≡ NotEnded) → ¬ (y ≡ NotEnded)
 begun_step (same e) s g = s (sym e ∙ g)
 begun_step (settled w n p a e i q h) s g = absurd cc
 begun_step (ended w d a e i q h) s g = s q
 
-module _ (step : RunsStep) (R : Run) where
+module _ (R : RunInTime) where
   linked_later : (t u : ℕ) → t ≤ u → (c : Kind) (r : ℕ) → LinkedAt R t c r → LinkedAt R u c r
   linked_later t u l c r h = kept_from (λ j. LinkedAt R j c r) t h (λ j a. (step R j).linked c r) u l
 
@@ -56,12 +57,12 @@ module _ (step : RunsStep) (R : Run) where
 
   -- the head is as it was, or was linked since
   abbrev Comes : ℕ → Head → ℕ → Type 0
-  Comes t h u = (head_at R u h ≡ head_at R t h) ⊎ Past u (λ p. (t ≤ p) × LinkedBy R p h (head_at R u h))
+  Comes t h u = (head_at R u h ≡ head_at R t h) ⊎ Before u (λ p. (t ≤ p) × LinkStepAtHead R p h (head_at R u h))
 
   comes_step : (t : ℕ) (h : Head) (j : ℕ) → t ≤ j → HeadSteps R j h (head_at R (suc j) h) → Comes t h j → Comes t h (suc j)
   comes_step t h j a (moves d e s) c = inr (record { time = j; before = omega arith; held = (a, record { change = d; head = e; step = s }) })
   comes_step t h j a (stays e) (inl g) = inl (e ∙ g)
-  comes_step t h j a (stays e) (inr p) = inr (record { time = p.time; before = omega (arith, p.before); held = (p.held.0, subst (LinkedBy R p.time h) (sym e) p.held.1) })
+  comes_step t h j a (stays e) (inr p) = inr (record { time = p.time; before = omega (arith, p.before); held = (p.held.0, subst (LinkStepAtHead R p.time h) (sym e) p.held.1) })
 
   comes : (t u : ℕ) → t ≤ u → (h : Head) → Named R.sizes (cell.Head h) → Comes t h u
   comes t u l h n = kept_from (Comes t h) t (inl refl) (λ j a. comes_step t h j a ((step R j).heads h n)) u l
@@ -79,16 +80,7 @@ module _ (step : RunsStep) (R : Run) where
     head = comes t u l;
   }
 
--- each item of a list of copies is the copy, or the one that stands for none
-pub copies : {A : Type 0} (P : A → Type 0) (m i : ℕ) (x d : A) → P x → P d → P (get_or (replicate m x) i d)
-copies P zero i x d a b = b
-copies P (suc m) zero x d a b = a
-copies P (suc m) (suc i) x d a b = copies P m i x d a b
-
-module _ (stamp : RunsStamp) (step : RunsStep) (R : Run) where
-  stamps_at : (k : ℕ) → StampLaws (R.state 0) (history_at R k) (R.state k)
-  stamps_at k = stamp (R.state 0) R.clean (history_at R k) (R.state k) (traced R k)
-
+module _ (R : RunInTime) where
   ins_holds : (z : Sizes) (x : ℕ) → ((n : ℕ) → IsStamp z n → ¬ (n ≡ 0) × ¬ (n ≡ pending)) → Holds z Ins x → ¬ (mark_of x ≡ NotEnded)
   ins_holds z x a (not_ended e q) g = absurd cc
   ins_holds z x a (waits e) g = let p : mark_of x ≡ Pending = ap mark_of e in absurd cc
@@ -96,7 +88,7 @@ module _ (stamp : RunsStamp) (step : RunsStep) (R : Run) where
 
   -- the rows at the start
   start_stamp : (h : Head) → Stands (R.state 0) h → mark_at R zero (head_kind h) Ins (head_at R zero h) ≡ Stamp (number_at R zero (cell.Stamp (head_kind h) Ins (head_at R zero h)))
-  start_stamp h x = let n : ℕ = number_at R zero (cell.Stamp (head_kind h) Ins (head_at R zero h)) in mark_stamp n ((stamps_at zero).apart n (x.stamp, omega (arith, x.born, R.clean.clock.1)))
+  start_stamp h x = let n : ℕ = number_at R zero (cell.Stamp (head_kind h) Ins (head_at R zero h)) in mark_stamp n ((stamps_at R zero).apart n (x.stamp, omega (arith, x.born, R.clean.clock.1)))
 
   old_row : (c : Kind) (r : ℕ) → LinkedAt R zero c r → OldRow R c r
   old_row c r l =
@@ -118,33 +110,33 @@ module _ (stamp : RunsStamp) (step : RunsStep) (R : Run) where
       ⊎_elim (λ (e : head_at R zero h ≡ 0). absurd (omega arith)) (λ (x : LinkedAt R zero (head_kind h) (head_at R zero h)). x)
       (clean_heads (R.state 0) R.clean h (subst (λ z. Named z (cell.Head h)) (sym R.start) n))
 
-  head_linked : (k : ℕ) (h : Head) → Named R.sizes (cell.Head h) → 0 < head_at R k h → (head_at R k h ≡ head_at R zero h) ⊎ Past k (λ p. LinkedBy R p h (head_at R k h))
+  head_linked : (k : ℕ) (h : Head) → Named R.sizes (cell.Head h) → 0 < head_at R k h → (head_at R k h ≡ head_at R zero h) ⊎ Before k (λ p. LinkStepAtHead R p h (head_at R k h))
   head_linked k h n l =
       ⊎_elim (λ (e : head_at R k h ≡ head_at R zero h). inl e)
-      (λ (p : Past k (λ p. (zero ≤ p) × LinkedBy R p h (head_at R k h))). inr (record { time = p.time; before = p.before; held = p.held.1 }))
-      ((time_laws step R zero k (omega arith)).head h n)
+      (λ (p : Before k (λ p. (zero ≤ p) × LinkStepAtHead R p h (head_at R k h))). inr (record { time = p.time; before = p.before; held = p.held.1 }))
+      ((time_laws R zero k (omega arith)).head h n)
 
-  abbrev WasLinked : ℕ → Kind → ℕ → Type 0
-  WasLinked k c r = Past k (λ p. (h : Head) × (head_kind h ≡ c) × LinkedBy R p h r)
+  abbrev LinkedBefore : ℕ → Kind → ℕ → Type 0
+  LinkedBefore k c r = Before k (λ p. (h : Head) × (head_kind h ≡ c) × LinkStepAtHead R p h r)
 
-  was_linked : (k : ℕ) (c : Kind) (r : ℕ) → LinkedAt R k c r → LinkedAt R zero c r ⊎ WasLinked k c r
+  was_linked : (k : ℕ) (c : Kind) (r : ℕ) → LinkedAt R k c r → LinkedAt R zero c r ⊎ LinkedBefore k c r
   was_linked zero c r l = inl l
   was_linked (suc k) c r l =
       ⊎_elim
-      (λ (o : LinkedAt R k c r). ⊎_elim (λ (x : LinkedAt R zero c r). inl x) (λ (x : WasLinked k c r). inr (past_later (omega arith) x)) (was_linked k c r o))
-      (λ (m : Links R k c r). inr (record { time = k; before = omega arith; held = (change_head m.change, m.kind, record { change = m.change; head = refl; step = m.step }) }))
+      (λ (o : LinkedAt R k c r). ⊎_elim (λ (x : LinkedAt R zero c r). inl x) (λ (x : LinkedBefore k c r). inr (before_later (omega arith) x)) (was_linked k c r o))
+      (λ (m : LinkStepOfKind R k c r). inr (record { time = k; before = omega arith; held = (change_head m.change, m.kind, record { change = m.change; head = refl; step = m.step }) }))
       ((step R k).news c r l)
 
   pub lasting_laws : LastingLaws R
   lasting_laws = record {
-    times = time_laws step R;
-    clock = λ k. subst (λ z. IsStamp z (clock_at R k)) ((stamps_at k).sizes ∙ R.start) (stamps_at k).clock;
+    times = time_laws R;
+    clock = λ k. subst (λ z. IsStamp z (clock_at R k)) ((stamps_at R k).sizes ∙ R.start) (stamps_at R k).clock;
     old_row = old_row;
     old_head = old_head;
     head = head_linked;
     linked = was_linked;
-    filled = λ k c r l. ins_holds (R.state k).sizes (number_at R k (cell.Stamp c Ins r)) (stamps_at k).apart ((stamps_at k).fields c Ins r l);
+    filled = λ k c r l. ins_holds (R.state k).sizes (number_at R k (cell.Stamp c Ins r)) (stamps_at R k).apart ((stamps_at R k).fields c Ins r l);
   }
 
-pub runs_last : RunsStamp → RunsStep → RunsLast
-runs_last stamp step R = lasting_laws stamp step R
+pub runs_last : RunsLast
+runs_last R = lasting_laws R

@@ -20,22 +20,24 @@ use Rattle.places.specs.declared.place.Place.TheVariants as place
 use Rattle.places.specs.declared.place.Stage.TheVariants as stage
 use Rattle.places.specs.Marks.{pending, mark_of}
 use Rattle.places.specs.Touches.{head_kind, change_head, change_kind, settled_field}
-use Rattle.stepper.specs.declared.request.Request.TheVariants.{Turn}
-use Rattle.stepper.specs.States.{State}
-use Rattle.stepper.specs.Effects.{filled, linked_cells}
-use Rattle.stepper.specs.Turns.{worker_at, cell_at, followed_at, turned}
-use Rattle.stepper.specs.Workers.{at, counted}
+use Rattle.machine.specs.declared.request.Request.TheVariants.{Turn}
+use Rattle.machine.specs.States.{State}
+use Rattle.machine.specs.Effects.{filled, linked_cells}
+use Rattle.machine.specs.Turns.{worker_at, cell_at, followed_at, turned}
+use Rattle.machine.specs.Workers.{at, counted}
 use Rattle.laws.specs.Fits.{Linked, InChain.at_head, InChain.below, FitChange, FitPlace}
 use Rattle.laws.specs.Changes.{next_own, number_in, Changes, Changes.keeps, Changes.ticks, Changes.links, Changes.stamps, Changes.ends, Changes.fills, Changes.writes}
 use Rattle.laws.specs.Laws.{TurnLaws}
 use Rattle.laws.specs.Sound.{Sound}
 use Rattle.laws.specs.Clean.{IsStamp}
 use Rattle.laws.specs.Stamps.{field_start, Moves, Moves.same, Moves.ended, Moves.settled}
-use Rattle.runs.specs.Runs.{Run}
+use Rattle.runs.specs.Runs.{RunInTime}
 use Rattle.runs.specs.Views.{head_at}
-use Rattle.runs.specs.Steps.{TurnAt, BoundAt, LinkStep, HeadSteps, HeadSteps.stays, HeadSteps.moves, MarkSteps, MarkSteps.same, MarkSteps.settled, MarkSteps.ended, Links, StepLaws}
-use Rattle.runs.proofs.Links.{linked_is_row, next_is_row, next_not_used, filled_older, filled_source, filled_target, filled_weight, linked_head, linked_cell}
-use Rattle.runs.proofs.Turns.{change_named, LinkTurn, LinkTurn.spent, LinkTurn.lost, LinkTurn.won, link_turn}
+use Rattle.runs.specs.Steps.{TurnAt, BoundAt, LinkStep, HeadSteps, HeadSteps.stays, HeadSteps.moves, MarkSteps, MarkSteps.same, MarkSteps.settled, MarkSteps.ended, LinkStepOfKind, StepLaws}
+use Rattle.runs.proofs.Links.{filled_older, filled_source, filled_target, filled_weight, linked_head, linked_cell}
+use Rattle.runs.proofs.Turns.{LinkTurn, LinkTurn.spent, LinkTurn.lost, LinkTurn.won, link_turn}
+use Rattle.laws.proofs.Owned.{linked_row, next_own_lem, next_unused}
+use Rattle.laws.proofs.Heads.{change_named}
 
 pub mark_stamp : (n : ℕ) → ¬ (n ≡ 0) × ¬ (n ≡ pending) → mark_of n ≡ Stamp n
 mark_stamp n a = rw (ne_eqb n 0 a.0, ne_eqb n pending a.1) refl
@@ -44,14 +46,14 @@ pub no_settled_head : (h : Head) (p : Purpose) → ¬ (cell.Head h ≡ settled_f
 no_settled_head h (purpose.Look f l r) e = absurd cc
 no_settled_head h (purpose.Own f c r) e = absurd cc
 no_settled_head h (purpose.LostDel c r) e = absurd cc
-no_settled_head h (purpose.WonIns i r) e = absurd cc
-no_settled_head h (purpose.BindAgain o b) e = absurd cc
-no_settled_head h (purpose.Again s o b f) e = absurd cc
+no_settled_head h (purpose.WinnerIns i r) e = absurd cc
+no_settled_head h (purpose.SourceAgain o b) e = absurd cc
+no_settled_head h (purpose.CheckAgain s o b f) e = absurd cc
 no_settled_head h (purpose.Compare s b f e′ x) e = absurd cc
 no_settled_head h (purpose.Walk f k r) e = absurd cc
 
 -- a turn of worker w at time k
-module _ (R : Run) (k w : ℕ) (asked : R.request k ≡ Turn w) (b : w < R.sizes.workers) (same_sizes : (R.state k).sizes ≡ R.sizes) (step : R.state (suc k) ≡ turned (R.state k) w) (z : Sound (R.state k)) (laws : TurnLaws (R.state k) w)
+module _ (R : RunInTime) (k w : ℕ) (asked : R.request k ≡ Turn w) (b : w < R.sizes.workers) (same_sizes : (R.state k).sizes ≡ R.sizes) (step : R.state (suc k) ≡ turned (R.state k) w) (z : Sound (R.state k)) (laws : TurnLaws (R.state k) w)
     (apart : (n : ℕ) → IsStamp R.sizes n → ¬ (n ≡ 0) × ¬ (n ≡ pending))
     (moving : (c : Kind) (f : Field) (r : ℕ) → Linked (R.state k) c r → Moves R.sizes f (number_in (R.state k) (cell.Stamp c f r)) (number_in (turned (R.state k) w) (cell.Stamp c f r)))
     (starting : (c : Kind) (f : Field) (r : ℕ) → ¬ (Linked (R.state k) c r) → Linked (turned (R.state k) w) c r → number_in (turned (R.state k) w) (cell.Stamp c f r) ≡ field_start f) where
@@ -78,13 +80,13 @@ module _ (R : Run) (k w : ℕ) (asked : R.request k ≡ Turn w) (b : w < R.sizes
   module _ (d : Change) (h r : ℕ) (p : (worker_at s w).place ≡ place.Link d h) (q : next_own s w (change_kind d) ≡ Some r) (g : number_in s (cell.Head (change_head d)) ≡ h)
       (v : (followed_at s w).worker ≡ at (counted (worker_at s w) (change_kind d)) (place.Settle stage.First (purpose.Own Ins d r))) (x : t.cells ≡ linked_cells s.sizes s.cells d h r) where
     row : IsRow s.sizes (change_kind d) r
-    row = (next_is_row s w (change_kind d) r q).0
+    row = (next_own_lem s w (change_kind d) r q).0
 
     top : Named s.sizes (cell.Head (change_head d))
     top = change_named s d (fits d h p)
 
     not_linked : ¬ (Linked s (change_kind d) r)
-    not_linked l = next_not_used s w (change_kind d) r q (z.counted (change_kind d) r l)
+    not_linked l = next_unused s w (change_kind d) r q (z.counted (change_kind d) r l)
 
     -- a cell of the new row
     holds : (c : Cell) (y : ℕ) → Named s.sizes c → ¬ (c ≡ cell.Head (change_head d)) → cell_at s.sizes (filled s.sizes s.cells d h r) c ≡ y → number_in t c ≡ y
@@ -161,7 +163,7 @@ module _ (R : Run) (k w : ℕ) (asked : R.request k ≡ Turn w) (b : w < R.sizes
   head_steps h n = head_step h _ refl (laws.changes (cell.Head h) n)
 
   older_stays : (c : Kind) (q : ℕ) → Linked s c q → number_in t (cell.Older c q) ≡ number_in s (cell.Older c q)
-  older_stays c q l = laws.older c q (linked_is_row s c q l) l
+  older_stays c q l = laws.older c q (linked_row s c q l) l
 
   -- linked rows stay linked
   stays_linked : (c : Kind) (r : ℕ) → Linked s c r → Linked t c r
@@ -183,15 +185,15 @@ module _ (R : Run) (k w : ℕ) (asked : R.request k ≡ Turn w) (b : w < R.sizes
       change_named s d f.0
 
   -- a row that is linked now was linked before, or is new
-  new_row : (c : Kind) (r : ℕ) → Linked t c r → Linked s c r ⊎ Links R k c r
+  new_row : (c : Kind) (r : ℕ) → Linked t c r → Linked s c r ⊎ LinkStepOfKind R k c r
   new_row c r (at_head h _ n e f l) = go (head_steps h n)
     where
-      go : HeadSteps R k h (head_at R (suc k) h) → Linked s c r ⊎ Links R k c r
+      go : HeadSteps R k h (head_at R (suc k) h) → Linked s c r ⊎ LinkStepOfKind R k c r
       go (stays y) = inl (at_head h r n e (sym (back (λ u. number_in u (cell.Head h) ≡ number_in s (cell.Head h)) y) ∙ f) l)
       go (moves d q st) = inr (record { change = d; kind = ap head_kind q ∙ e; step = subst (LinkStep R k d) (next_time (λ u. number_in u (cell.Head h) ≡ r) f) st })
   new_row c r (below q _ x f l) = go (new_row c q x)
     where
-      go : Linked s c q ⊎ Links R k c q → Linked s c r ⊎ Links R k c r
+      go : Linked s c q ⊎ LinkStepOfKind R k c q → Linked s c r ⊎ LinkStepOfKind R k c r
       go (inl o) = inl (below q r o (sym (older_stays c q o) ∙ f) l)
       go (inr m) =
           let d : Change = m.change in
@@ -208,11 +210,8 @@ module _ (R : Run) (k w : ℕ) (asked : R.request k ≡ Turn w) (b : w < R.sizes
   mark_step c f r x y l (stamps p e i q) (settled h g) = settled w y p (turn_at (place.Settle (stage.Swap y) p) e) (sym i) g (ap mark_of q) (mark_stamp y (apart y g))
   mark_step c f r x y l (ends d q e i a h) m = let same_field : f ≡ Del = cc in let same_kind : change_kind d ≡ c = cc in let same_number : q ≡ r = cc in
       ended w d (turn_at (place.End d r) (subst (λ n. (worker_at s w).place ≡ place.End d n) same_number e)) same_kind same_field (ap mark_of a) (ap mark_of h)
-  mark_step c f r x y l (fills j q p o b) m = absurd (next_not_used s w j q p (z.counted j q (subst (λ (u : Kind). Linked s u q) o.0 (subst (Linked s c) o.1 l))))
+  mark_step c f r x y l (fills j q p o b) m = absurd (next_unused s w j q p (z.counted j q (subst (λ (u : Kind). Linked s u q) o.0 (subst (Linked s c) o.1 l))))
   mark_step c f r x y l (writes o q) m = absurd o
-
-  named_row : (c : Kind) (r : ℕ) → Linked s c r → IsRow s.sizes c r
-  named_row c r l = linked_is_row s c r l
 
   fixed : (c : Cell) → number_in t c ≡ number_in s c → number_in (R.state (suc k)) c ≡ number_in s c
   fixed c e = next_time (λ u. number_in u c ≡ number_in s c) e
@@ -223,9 +222,9 @@ module _ (R : Run) (k w : ℕ) (asked : R.request k ≡ Turn w) (b : w < R.sizes
     linked = λ c r l. next_time (λ u. Linked u c r) (stays_linked c r l);
     news = λ c r l. new_row c r (subst (λ u. Linked u c r) step l);
     heads = λ h n. head_step h _ refl (laws.changes (cell.Head h) (subst (λ (y : Sizes). Named y (cell.Head h)) (sym same_sizes) n));
-    marks = λ c f r l. next_time (λ u. MarkSteps R k c f r (mark_of (number_in s (cell.Stamp c f r))) (mark_of (number_in u (cell.Stamp c f r)))) (mark_step c f r _ _ l (laws.changes (cell.Stamp c f r) (named_row c r l)) (moving c f r l));
-    older = λ c r l. fixed (cell.Older c r) (laws.older c r (named_row c r l) l);
-    source = λ r l. fixed (cell.Source r) (laws.source r (named_row Edge r l) l);
-    target = λ r l. fixed (cell.Target r) (laws.target r (named_row Edge r l) l);
-    weight = λ r l. fixed (cell.Weight r) (laws.weight r (named_row Edge r l) l);
+    marks = λ c f r l. next_time (λ u. MarkSteps R k c f r (mark_of (number_in s (cell.Stamp c f r))) (mark_of (number_in u (cell.Stamp c f r)))) (mark_step c f r _ _ l (laws.changes (cell.Stamp c f r) (linked_row s c r l)) (moving c f r l));
+    older = λ c r l. fixed (cell.Older c r) (laws.older c r (linked_row s c r l) l);
+    source = λ r l. fixed (cell.Source r) (laws.source r (linked_row s Edge r l) l);
+    target = λ r l. fixed (cell.Target r) (laws.target r (linked_row s Edge r l) l);
+    weight = λ r l. fixed (cell.Weight r) (laws.weight r (linked_row s Edge r l) l);
   }

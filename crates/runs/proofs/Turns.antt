@@ -2,15 +2,12 @@
 use Rattle.std.proofs.Common.{◌≡◌, ℕ, ◌<◌, Bool, true, false, eqb, length, Some, None, Option, refl, ap, ap₂, ◌∙◌, subst, arith}
 use Rattle.std.proofs.lemmas.Bool.{eqb-true, eqb-false}
 use Rattle.std.proofs.lemmas.List.{get_or-set_same, get_or-set_other}
-use Rattle.std.specs.Bool.{then_some}
 use Rattle.std.specs.Option.{is_some}
 use Rattle.std.specs.declared.ops.ControlFlow.TheVariants.{Break}
 use Rattle.codes.specs.declared.answer.Answer.TheVariants.{RowsSpent}
 use Rattle.layout.specs.declared.names.Field.TheVariants.{Ins}
 use Rattle.layout.specs.declared.names.Cell.TheVariants as cell
-use Rattle.layout.specs.Layout.{Named}
 use Rattle.places.specs.declared.place.Change.{Change}
-use Rattle.places.specs.declared.place.Change.TheVariants as change
 use Rattle.places.specs.declared.place.Place.{Place}
 use Rattle.places.specs.declared.place.Place.TheVariants as place
 use Rattle.places.specs.declared.place.Purpose.TheVariants as purpose
@@ -22,18 +19,17 @@ use Rattle.places.specs.Private.{link_kind}
 use Rattle.places.specs.Rules.{lost_link}
 use Rattle.places.specs.Touches.{change_head, change_kind, link_touch, touch_of}
 use Rattle.places.specs.Nexts.{link_done as next_link, next_of}
-use Rattle.stepper.specs.States.{State}
-use Rattle.stepper.specs.Effects.{link_done, linked_cells, got_of, cells_after, entered}
-use Rattle.stepper.specs.Turns.{worker_at, spare_for, hand_of, hand_at, touch_at, next_at, followed_at, turned}
-use Rattle.stepper.specs.Workers.{nobody, at, counted, followed}
+use Rattle.machine.specs.States.{State}
+use Rattle.machine.specs.Effects.{link_done, linked_cells, got_of, cells_after, entered}
+use Rattle.machine.specs.Turns.{worker_at, spare_for, hand_of, hand_at, touch_at, next_at, followed_at, turned}
+use Rattle.machine.specs.Workers.{nobody, at, counted, followed}
 use Rattle.laws.specs.Fits.{FitChange, FitPlace}
 use Rattle.laws.specs.Changes.{next_own, number_in}
 use Rattle.laws.specs.Sound.{Sound}
-use Rattle.runs.proofs.Links.{next_is_row, link_says}
-
-pub change_named : (s : State) (d : Change) → FitChange s d → Named s.sizes (cell.Head (change_head d))
-change_named s (change.Vertex i) f = f
-change_named s (change.Edge b) f = f.keys
+use Rattle.runs.proofs.Links.{link_says}
+use Rattle.laws.proofs.Owned.{next_own_lem}
+use Rattle.laws.proofs.Heads.{change_named}
+use Rattle.laws.proofs.Puts.{done_is}
 
 -- what follows at a place, what is touched there, and the cells then
 module _ (s : State) (w : ℕ) where
@@ -51,13 +47,9 @@ module _ (s : State) (w : ℕ) where
 
   -- a link turn finds no row left, or is lost, or is won
   pub data LinkTurn (d : Change) (h : ℕ) : Type 0 where
-    spent : next_own s w (change_kind d) ≡ None → next_at s w ≡ next.Out (Break RowsSpent) → LinkTurn d h
-    lost : (r : ℕ) → next_own s w (change_kind d) ≡ Some r → ¬ (number_in s (cell.Head (change_head d)) ≡ h) → next_at s w ≡ next.Out (lost_link d) → LinkTurn d h
+    spent : next_own s w (change_kind d) ≡ None → next_at s w ≡ next.Moved (Break RowsSpent) → LinkTurn d h
+    lost : (r : ℕ) → next_own s w (change_kind d) ≡ Some r → ¬ (number_in s (cell.Head (change_head d)) ≡ h) → next_at s w ≡ next.Moved (lost_link d) → LinkTurn d h
     won : (r : ℕ) → next_own s w (change_kind d) ≡ Some r → number_in s (cell.Head (change_head d)) ≡ h → next_at s w ≡ next.Linked d r → (followed_at s w).worker ≡ at (counted (worker_at s w) (change_kind d)) (place.Settle stage.First (purpose.Own Ins d r)) → (turned s w).cells ≡ linked_cells s.sizes s.cells d h r → LinkTurn d h
-
-pub is_done : (b : Bool) (x : ℕ) → is_some (then_some b x) ≡ b
-is_done true x = refl
-is_done false x = refl
 
 module _ (s : State) (w : ℕ) (z : Sound s) (b : w < s.sizes.workers) where
   pub in_table : w < length s.workers
@@ -77,7 +69,7 @@ module _ (s : State) (w : ℕ) (z : Sound s) (b : w < s.sizes.workers) where
     link_from o = next_link d o (is_some (got_of s.sizes s.cells (link_touch d h o)))
 
     says : (r : ℕ) → next_own s w (change_kind d) ≡ Some r → is_some (got_of s.sizes s.cells (touch.Link d h r)) ≡ eqb (number_in s (cell.Head (change_head d))) h
-    says r q = is_done (link_done s.sizes s.cells d h r) h ∙ link_says s.sizes s.cells z.cells h r d (next_is_row s w (change_kind d) r q).0 (change_named s d fits)
+    says r q = done_is (link_done s.sizes s.cells d h r) h ∙ link_says s.sizes s.cells z.cells h r d (next_own_lem s w (change_kind d) r q).0 (change_named s d fits)
 
     cells_linked : (r : ℕ) → next_own s w (change_kind d) ≡ Some r → next_at s w ≡ next.Linked d r → (turned s w).cells ≡ linked_cells s.sizes s.cells d h r
     cells_linked r q x =

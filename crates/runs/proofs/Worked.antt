@@ -10,18 +10,18 @@ use Rattle.laws.specs.Clean.{head_in, Stands, Joins, Clean}
 use Rattle.order.specs.Started.{two_joined}
 use Rattle.places.specs.declared.place.Place.TheVariants as place
 use Rattle.places.specs.Touches.{head_kind}
-use Rattle.stepper.specs.Workers.{nobody}
-use Rattle.runs.proofs.Times.{copies}
+use Rattle.machine.specs.Workers.{nobody}
+use Rattle.laws.proofs.Served.{get_or-replicate}
 use Rattle.runs.specs.Worked.{tiny, worker, joined_state, state_after, Worked}
 
 stands_first : Stands joined_state (head.Vertex 0)
-stands_first = record { counted = record { owner = 0; place = 0; before = lit≤ tt; is = refl }; born = lit≤ tt; stamp = lit≤ tt; alive = refl; alone = refl }
+stands_first = record { counted = record { owner = 0; nth = 0; before = lit≤ tt; is = refl }; born = lit≤ tt; stamp = lit≤ tt; alive = refl; alone = refl }
 
 stands_second : Stands joined_state (head.Vertex 1)
-stands_second = record { counted = record { owner = 0; place = 1; before = lit≤ tt; is = refl }; born = lit≤ tt; stamp = lit≤ tt; alive = refl; alone = refl }
+stands_second = record { counted = record { owner = 0; nth = 1; before = lit≤ tt; is = refl }; born = lit≤ tt; stamp = lit≤ tt; alive = refl; alone = refl }
 
 stands_edge : Stands joined_state (head.Edge 0 1)
-stands_edge = record { counted = record { owner = 0; place = 0; before = lit≤ tt; is = refl }; born = lit≤ tt; stamp = lit≤ tt; alive = refl; alone = refl }
+stands_edge = record { counted = record { owner = 0; nth = 0; before = lit≤ tt; is = refl }; born = lit≤ tt; stamp = lit≤ tt; alive = refl; alone = refl }
 
 heads : (h : Head) → Named tiny (cell.Head h) → (head_in joined_state h ≡ 0) ⊎ Stands joined_state h
 heads (head.Vertex zero) n = inr stands_first
@@ -68,8 +68,8 @@ clean = record {
   cells = lit≤ tt;
   table = lit≤ tt;
   clock = (lit≤ tt, lit≤ tt);
-  idle = λ w b. copies (λ u. u.place ≡ place.Idle) 8 w worker nobody refl refl;
-  books = λ w n b. copies (λ u. get_or u.book.queue n 0 < 2) 8 w worker nobody (copies (λ (x : ℕ). x < 2) 64 n 0 0 (lit≤ tt) (lit≤ tt)) (lit≤ tt);
+  idle = λ w b. get_or-replicate (λ u. u.place ≡ place.Idle) 8 w worker nobody refl refl;
+  books = λ w n b. get_or-replicate (λ u. get_or u.book.queue n 0 < 2) 8 w worker nobody (get_or-replicate (λ (x : ℕ). x < 2) 64 n 0 0 (lit≤ tt) (lit≤ tt)) (lit≤ tt);
   heads = heads;
   apart = apart;
   joined = joined;

@@ -28,7 +28,7 @@ purpose_kind p = Vertex
 abbrev pub purpose_field : Purpose → Field
 purpose_field (purpose.Look f l r) = f
 purpose_field (purpose.Own f c r) = f
-purpose_field (purpose.WonIns i r) = Ins
+purpose_field (purpose.WinnerIns i r) = Ins
 purpose_field (purpose.Walk f k r) = f
 purpose_field p = Del
 
@@ -36,9 +36,9 @@ abbrev pub purpose_row : Purpose → ℕ
 purpose_row (purpose.Look f l r) = r
 purpose_row (purpose.Own f c r) = r
 purpose_row (purpose.LostDel c r) = r
-purpose_row (purpose.WonIns i r) = r
-purpose_row (purpose.BindAgain o b) = b.source
-purpose_row (purpose.Again s o b f) = side_row b s
+purpose_row (purpose.WinnerIns i r) = r
+purpose_row (purpose.SourceAgain o b) = b.source
+purpose_row (purpose.CheckAgain s o b f) = side_row b s
 purpose_row (purpose.Compare s b f e x) = side_row b s
 purpose_row (purpose.Walk f k r) = r
 
@@ -61,9 +61,9 @@ abbrev pub purpose_call : Purpose → Call
 purpose_call (purpose.Look f l r) = look_call l
 purpose_call (purpose.Own f c r) = change_call (change_op f) c
 purpose_call (purpose.LostDel c r) = change_call Remove c
-purpose_call (purpose.WonIns i r) = call.Vertex Add i
-purpose_call (purpose.BindAgain o b) = call.Edge o b.pair
-purpose_call (purpose.Again s o b f) = call.Edge o b.pair
+purpose_call (purpose.WinnerIns i r) = call.Vertex Add i
+purpose_call (purpose.SourceAgain o b) = call.Edge o b.pair
+purpose_call (purpose.CheckAgain s o b f) = call.Edge o b.pair
 purpose_call (purpose.Compare s b f e x) = call.Edge (change_op f) b.pair
 purpose_call (purpose.Walk f k r) = call.Survey k.survey
 
@@ -80,16 +80,16 @@ InCall (place.WalkHead k) c = call.Survey k.survey ≡ c
 InCall (place.WalkOlder k r) c = call.Survey k.survey ≡ c
 
 -- a change that a call has made: of a field of a row
-pub record Made : Type 0 where
+pub record MadeChange : Type 0 where
   pub field : Field
   pub change : Change
   pub row : ℕ
 
-abbrev pub purpose_made : Purpose → Option Made
+abbrev pub purpose_made : Purpose → Option MadeChange
 purpose_made (purpose.Own f c r) = Some (record { field = f; change = c; row = r })
 purpose_made (purpose.Compare s b f e x) = Some (record { field = f; change = change.Edge b; row = e })
 purpose_made p = None
 
-abbrev pub place_made : Place → Option Made
+abbrev pub place_made : Place → Option MadeChange
 place_made (place.Settle st p) = purpose_made p
 place_made p = None

@@ -17,15 +17,15 @@ use Rattle.places.specs.declared.place.Call.{Call}
 use Rattle.places.specs.declared.place.Call.TheVariants as call
 use Rattle.places.specs.declared.place.Place.TheVariants as place
 use Rattle.places.specs.Rules.{edge_changed}
-use Rattle.stepper.specs.declared.request.Request.TheVariants as request
-use Rattle.stepper.specs.declared.request.Reply.TheVariants.{Answered}
-use Rattle.stepper.specs.Requests.{begun_as, reply_of}
-use Rattle.runs.specs.Runs.{Run}
+use Rattle.machine.specs.declared.request.Request.TheVariants as request
+use Rattle.machine.specs.declared.request.Reply.TheVariants.{Answered}
+use Rattle.machine.specs.Requests.{call_to_begin, reply_of}
+use Rattle.runs.specs.Runs.{RunInTime}
 use Rattle.runs.specs.Views.{mark_at, place_at, LinkedAt}
 use Rattle.runs.specs.Seen.{open_at}
-use Rattle.runs.specs.Times.{Past}
-use Rattle.runs.specs.Purposes.{change_op, change_call, InCall, Made, place_made}
-use Rattle.runs.specs.Known.{TurnOf, Stamped, Dead, Has, HeadWas, Firm, OwnChange, LinkedSince, NotBelow, StampedChange, Known}
+use Rattle.runs.specs.Times.{Before}
+use Rattle.runs.specs.Purposes.{change_op, change_call, InCall, MadeChange, place_made}
+use Rattle.runs.specs.Known.{TurnOf, StampedAt, Dead, Has, HeadWas, Firm, OwnChange, LinkedSince, NotBelow, StampedChange, Known}
 
 -- the call answers 13 where key i is absent
 abbrev pub Needs : Call → ℕ → Type 0
@@ -42,15 +42,15 @@ vertex_changed Del = VertexRemoved
 abbrev pub IsEnd : Bound → ℕ → ℕ → Type 0
 IsEnd d i r = ((d.pair.from ≡ i) × (d.source ≡ r)) ⊎ ((d.pair.to ≡ i) × (d.target ≡ r))
 
-module _ (R : Run) where
+module _ (R : RunInTime) where
   -- the answer a of call c, which began at b and had made the change m: one way for each sort of key that explains it
-  pub data Why (k b : ℕ) (c : Call) (m : Option Made) (a : Answer) : Type 0 where
+  pub data Why (k b : ℕ) (c : Call) (m : Option MadeChange) (a : Answer) : Type 0 where
     -- 10, 12: the change bears its stamp
-    vertex_made : (f : Field) (i r : ℕ) → m ≡ Some (record { field = f; change = change.Vertex i; row = r }) → c ≡ call.Vertex (change_op f) i → a ≡ vertex_changed f → OwnChange R k b f (change.Vertex i) r → LinkedAt R k Vertex r → Stamped R k Vertex f r → Why k b c m a
+    vertex_made : (f : Field) (i r : ℕ) → m ≡ Some (record { field = f; change = change.Vertex i; row = r }) → c ≡ call.Vertex (change_op f) i → a ≡ vertex_changed f → OwnChange R k b f (change.Vertex i) r → LinkedAt R k Vertex r → StampedAt R k Vertex f r → Why k b c m a
     -- 11, 14: a living head was seen
     vertex_here : (i r : ℕ) → m ≡ None → ((c ≡ call.Vertex Add i) × (a ≡ VertexAlready)) ⊎ ((c ≡ call.Vertex Contains i) × (a ≡ VertexPresent)) → Has R k b i r → Why k b c m a
     -- 11: the row that was linked since the call began bears the stamp of its ins
-    vertex_won : (i r : ℕ) → m ≡ None → c ≡ call.Vertex Add i → a ≡ VertexAlready → LinkedSince R k b i r → HeadWas R k b (head.Vertex i) r → LinkedAt R k Vertex r → Stamped R k Vertex Ins r → Why k b c m a
+    vertex_won : (i r : ℕ) → m ≡ None → c ≡ call.Vertex Add i → a ≡ VertexAlready → LinkedSince R k b i r → HeadWas R k b (head.Vertex i) r → LinkedAt R k Vertex r → StampedAt R k Vertex Ins r → Why k b c m a
     -- 13: the head was no row, or a dead one
     vertex_gone : (i r : ℕ) → m ≡ None → Needs c i → a ≡ VertexAbsent → HeadWas R k b (head.Vertex i) r → (r ≡ 0) ⊎ Dead R k r → Why k b c m a
     -- 13: a row that the call saw alive is dead
@@ -64,12 +64,12 @@ module _ (R : Run) where
     -- 23: the edge head was no row or not the edge, and both vertices alive after it
     edge_missed : (o : Op) (d : Bound) (h : ℕ) → m ≡ None → c ≡ call.Edge o d.pair → a ≡ EdgeAbsent → (o ≡ Remove) ⊎ (o ≡ Contains) → Firm R k b o d (Err h) → Why k b c m a
     -- 40: the worker had no row left
-    rows_spent : (d : Change) → m ≡ None → c ≡ change_call Add d → a ≡ RowsSpent → Past k (λ t. TurnOf R t b) → Why k b c m a
+    rows_spent : (d : Change) → m ≡ None → c ≡ change_call Add d → a ≡ RowsSpent → Before k (λ t. TurnOf R t b) → Why k b c m a
 
   -- of a snapshot or reach nothing is said here
-  abbrev pub Right : ℕ → ℕ → Call → Option Made → Answer → Type 0
-  Right k b (call.Survey v) m a = Unit {0}
-  Right k b c m a = Why k b c m a
+  abbrev pub HasReason : ℕ → ℕ → Call → Option MadeChange → Answer → Type 0
+  HasReason k b (call.Survey v) m a = Unit {0}
+  HasReason k b c m a = Why k b c m a
 
   -- worker w began call c at time b
   pub record BegunBy (k w b : ℕ) (c : Call) : Type 0 where
@@ -77,7 +77,7 @@ module _ (R : Run) where
     pub begin : Begin
     pub asked : R.request b ≡ request.Begin begin
     pub worker : begin.worker ≡ w
-    pub call : begun_as (R.state b) begin ≡ Ok c
+    pub call : call_to_begin (R.state b) begin ≡ Ok c
 
   -- a worker has no call open and is idle, or knows what its place says in its call
   pub data WorkerKnows (k w : ℕ) : Type 0 where
@@ -90,11 +90,11 @@ module _ (R : Run) where
     pub call : Call
     pub whose : open_at R k w ≡ Some began
     pub begun : BegunBy k w began call
-    pub right : Right (suc k) began call (place_made (place_at R k w)) a
+    pub right : HasReason (suc k) began call (place_made (place_at R k w)) a
 
   pub record RunKnows : Type 0 where
     pub workers : (k w : ℕ) → w < R.sizes.workers → WorkerKnows k w
     pub answers : (k w : ℕ) (a : Answer) → R.request k ≡ request.Turn w → reply_of (R.state k) (request.Turn w) ≡ Answered a → AnswerRight k w a
 
 abbrev pub RunsKnow : Type 0
-RunsKnow = (R : Run) → RunKnows R
+RunsKnow = (R : RunInTime) → RunKnows R

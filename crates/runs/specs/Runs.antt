@@ -2,14 +2,14 @@
 use Rattle.std.specs.Prelude.{◌≡◌, ℕ, zero, suc, ◌≤◌, List, [], ◌∷◌, length}
 use Rattle.layout.specs.declared.sizes.Sizes.{Sizes}
 use Rattle.layout.specs.Layout.{needed}
-use Rattle.stepper.specs.declared.request.Request.{Request}
-use Rattle.stepper.specs.States.{State}
-use Rattle.stepper.specs.Opening.{opened_state}
-use Rattle.stepper.specs.Requests.{reply_of, stepped}
-use Rattle.stepper.specs.History.{Event, Traces}
+use Rattle.machine.specs.declared.request.Request.{Request}
+use Rattle.machine.specs.States.{State}
+use Rattle.machine.specs.Opening.{opened_state}
+use Rattle.machine.specs.Requests.{reply_of, stepped}
+use Rattle.machine.specs.History.{Event, Traces}
 use Rattle.laws.specs.Clean.{Clean}
 
-pub record Run : Type 0 where
+pub record RunInTime : Type 0 where
   pub sizes : Sizes
   pub request : ℕ → Request
   pub state : ℕ → State
@@ -18,13 +18,13 @@ pub record Run : Type 0 where
   pub next : (k : ℕ) → state (suc k) ≡ stepped (state k) (request k)
 
 -- the requests before time k with their replies, newest first
-unfoldable pub history_at : Run → ℕ → List Event
+unfoldable pub history_at : RunInTime → ℕ → List Event
 history_at R zero = []
 history_at R (suc k) = record { request = R.request k; reply = reply_of (R.state k) (R.request k) } ∷ history_at R k
 
 -- a run that starts in a state, and that has history h and state s after as many requests as h holds
 pub record RunOf (start : State) (h : List Event) (s : State) : Type 0 where
-  pub run : Run
+  pub run : RunInTime
   pub sizes : run.sizes ≡ start.sizes
   pub starts : run.state 0 ≡ start
   pub history : history_at run (length h) ≡ h

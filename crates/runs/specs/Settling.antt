@@ -4,10 +4,10 @@ use Rattle.places.specs.declared.place.Survey.{Survey}
 use Rattle.places.specs.declared.place.Place.TheVariants as place
 use Rattle.order.specs.Marks.{Marks}
 use Rattle.order.specs.Raises.{AllSettled}
-use Rattle.runs.specs.Runs.{Run}
+use Rattle.runs.specs.Runs.{RunInTime}
 use Rattle.runs.specs.Views.{clock_at}
 use Rattle.runs.specs.Steps.{TurnAt}
-use Rattle.runs.specs.Marking.{MarksTell}
+use Rattle.runs.specs.Marking.{MarksTellRun}
 
 abbrev pub RunsSettle : Type 0
-RunsSettle = (R : Run) (now : ℕ) (m : Marks) → MarksTell R now m → (r w : ℕ) (v : Survey) → TurnAt R r w (place.Raise v) → AllSettled (clock_at R) r (clock_at R now) m
+RunsSettle = (R : RunInTime) (now : ℕ) (m : Marks) → MarksTellRun R now m → (r w : ℕ) (v : Survey) → TurnAt R r w (place.Raise v) → AllSettled (clock_at R) r (clock_at R now) m

@@ -2,16 +2,16 @@
 use Rattle.std.specs.Prelude.{◌≡◌, ℕ, suc}
 use Rattle.codes.specs.declared.answer.Answer.{Answer}
 use Rattle.places.specs.declared.place.Call.{Call}
-use Rattle.stepper.specs.declared.request.Request.TheVariants.{Turn}
-use Rattle.stepper.specs.declared.request.Reply.TheVariants.{Answered}
-use Rattle.stepper.specs.Requests.{reply_of}
+use Rattle.machine.specs.declared.request.Request.TheVariants.{Turn}
+use Rattle.machine.specs.declared.request.Reply.TheVariants.{Answered}
+use Rattle.machine.specs.Requests.{reply_of}
 use Rattle.questions.specs.Graph.{Graph}
-use Rattle.order.specs.Seen.{Sight.begins, Sight.finishes, OneAtATime, PastSeen}
-use Rattle.runs.specs.Runs.{Run}
+use Rattle.order.specs.Seen.{CallSight.begins, CallSight.finishes, OneAtATime, PastSeen}
+use Rattle.runs.specs.Runs.{RunInTime}
 use Rattle.runs.specs.Seen.{page_graph, seen}
 use Rattle.runs.specs.Reasons.{BegunBy}
 
-module _ (R : Run) where
+module _ (R : RunInTime) where
   -- turn k answered a, and the page of its worker then shows g
   pub record AnswerAt (k w : ℕ) (a : Answer) (g : Graph) : Type 0 where
     pub asked : R.request k ≡ Turn w
@@ -28,4 +28,4 @@ module _ (R : Run) where
     pub finished : (k w : ℕ) (a : Answer) (g : Graph) → seen R k ≡ finishes w a g → AnswerAt k w a g
 
 abbrev pub RunsSeen : Type 0
-RunsSeen = (R : Run) → SeenLaws R
+RunsSeen = (R : RunInTime) → SeenLaws R

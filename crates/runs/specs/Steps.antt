@@ -16,12 +16,12 @@ use Rattle.places.specs.declared.place.Stage.TheVariants.{Swap}
 use Rattle.places.specs.declared.place.Place.{Place}
 use Rattle.places.specs.declared.place.Place.TheVariants as place
 use Rattle.places.specs.Touches.{change_head, change_kind, settled_field}
-use Rattle.stepper.specs.declared.request.Request.TheVariants.{Turn}
+use Rattle.machine.specs.declared.request.Request.TheVariants.{Turn}
 use Rattle.laws.specs.Clean.{IsStamp}
-use Rattle.runs.specs.Runs.{Run}
+use Rattle.runs.specs.Runs.{RunInTime}
 use Rattle.runs.specs.Views.{number_at, clock_at, head_at, mark_at, place_at, LinkedAt}
 
-module _ (R : Run) where
+module _ (R : RunInTime) where
   -- request k is a turn of worker w at a place
   pub record TurnAt (k w : ℕ) (p : Place) : Type 0 where
     pub asked : R.request k ≡ Turn w
@@ -57,7 +57,7 @@ module _ (R : Run) where
     ended : (w : ℕ) (d : Change) → TurnAt k w (place.End d r) → change_kind d ≡ c → f ≡ Del → x ≡ NotEnded → y ≡ Pending → MarkSteps k c f r x y
 
   -- turn k linked row r of a kind
-  pub record Links (k : ℕ) (c : Kind) (r : ℕ) : Type 0 where
+  pub record LinkStepOfKind (k : ℕ) (c : Kind) (r : ℕ) : Type 0 where
     pub change : Change
     pub kind : change_kind change ≡ c
     pub step : LinkStep k change r
@@ -66,7 +66,7 @@ module _ (R : Run) where
     pub clock : clock_at R k ≤ clock_at R (suc k)
     pub linked : (c : Kind) (r : ℕ) → LinkedAt R k c r → LinkedAt R (suc k) c r
     -- a row that is linked now was linked before, or turn k linked it
-    pub news : (c : Kind) (r : ℕ) → LinkedAt R (suc k) c r → LinkedAt R k c r ⊎ Links k c r
+    pub news : (c : Kind) (r : ℕ) → LinkedAt R (suc k) c r → LinkedAt R k c r ⊎ LinkStepOfKind k c r
     pub heads : (h : Head) → Named R.sizes (cell.Head h) → HeadSteps k h (head_at R (suc k) h)
     pub marks : (c : Kind) (f : Field) (r : ℕ) → LinkedAt R k c r → MarkSteps k c f r (mark_at R k c f r) (mark_at R (suc k) c f r)
     pub older : (c : Kind) (r : ℕ) → LinkedAt R k c r → number_at R (suc k) (cell.Older c r) ≡ number_at R k (cell.Older c r)
@@ -75,4 +75,4 @@ module _ (R : Run) where
     pub weight : (r : ℕ) → LinkedAt R k Edge r → number_at R (suc k) (cell.Weight r) ≡ number_at R k (cell.Weight r)
 
 abbrev pub RunsStep : Type 0
-RunsStep = (R : Run) (k : ℕ) → StepLaws R k
+RunsStep = (R : RunInTime) (k : ℕ) → StepLaws R k

@@ -11,19 +11,19 @@ use Rattle.places.specs.declared.mark.Mark.TheVariants.{NotEnded, Stamp}
 use Rattle.places.specs.declared.place.Change.{Change}
 use Rattle.places.specs.Touches.{change_head, head_kind}
 use Rattle.laws.specs.Clean.{IsStamp}
-use Rattle.runs.specs.Runs.{Run}
+use Rattle.runs.specs.Runs.{RunInTime}
 use Rattle.runs.specs.Views.{number_at, clock_at, head_at, mark_at, LinkedAt}
 use Rattle.runs.specs.Steps.{LinkStep}
 
 -- something held at a time before k
-pub record Past (k : ℕ) (P : ℕ → Type 0) : Type 0 where
+pub record Before (k : ℕ) (P : ℕ → Type 0) : Type 0 where
   pub time : ℕ
   pub before : time < k
   pub held : P time
 
-module _ (R : Run) where
+module _ (R : RunInTime) where
   -- turn p linked row r at a head
-  pub record LinkedBy (p : ℕ) (h : Head) (r : ℕ) : Type 0 where
+  pub record LinkStepAtHead (p : ℕ) (h : Head) (r : ℕ) : Type 0 where
     pub change : Change
     pub head : change_head change ≡ h
     pub step : LinkStep R p change r
@@ -42,7 +42,7 @@ module _ (R : Run) where
     pub target : (r : ℕ) → LinkedAt R t Edge r → number_at R u (cell.Target r) ≡ number_at R t (cell.Target r)
     pub weight : (r : ℕ) → LinkedAt R t Edge r → number_at R u (cell.Weight r) ≡ number_at R t (cell.Weight r)
     -- a head is as it was, or is a row that was linked there since
-    pub head : (h : Head) → Named R.sizes (cell.Head h) → (head_at R u h ≡ head_at R t h) ⊎ Past u (λ p. (t ≤ p) × LinkedBy p h (head_at R u h))
+    pub head : (h : Head) → Named R.sizes (cell.Head h) → (head_at R u h ≡ head_at R t h) ⊎ Before u (λ p. (t ≤ p) × LinkStepAtHead p h (head_at R u h))
 
   -- a row that is linked at the start is the row of a head; it bears a stamp up to the clock, and has not ended
   pub record OldRow (c : Kind) (r : ℕ) : Type 0 where
@@ -63,11 +63,11 @@ module _ (R : Run) where
     pub old_row : (c : Kind) (r : ℕ) → LinkedAt R zero c r → OldRow c r
     pub old_head : (h : Head) → Named R.sizes (cell.Head h) → 0 < head_at R zero h → LinkedAt R zero (head_kind h) (head_at R zero h)
     -- a head that is a row was so at the start, or was linked there before
-    pub head : (k : ℕ) (h : Head) → Named R.sizes (cell.Head h) → 0 < head_at R k h → (head_at R k h ≡ head_at R zero h) ⊎ Past k (λ p. LinkedBy p h (head_at R k h))
+    pub head : (k : ℕ) (h : Head) → Named R.sizes (cell.Head h) → 0 < head_at R k h → (head_at R k h ≡ head_at R zero h) ⊎ Before k (λ p. LinkStepAtHead p h (head_at R k h))
     -- a linked row was linked at the start or before
-    pub linked : (k : ℕ) (c : Kind) (r : ℕ) → LinkedAt R k c r → LinkedAt R zero c r ⊎ Past k (λ p. (h : Head) × (head_kind h ≡ c) × LinkedBy p h r)
+    pub linked : (k : ℕ) (c : Kind) (r : ℕ) → LinkedAt R k c r → LinkedAt R zero c r ⊎ Before k (λ p. (h : Head) × (head_kind h ≡ c) × LinkStepAtHead p h r)
     -- ins of a linked row is pending or a stamp
     pub filled : (k : ℕ) (c : Kind) (r : ℕ) → LinkedAt R k c r → ¬ (mark_at R k c Ins r ≡ NotEnded)
 
 abbrev pub RunsLast : Type 0
-RunsLast = (R : Run) → LastingLaws R
+RunsLast = (R : RunInTime) → LastingLaws R

@@ -8,15 +8,15 @@ use Rattle.places.specs.declared.mark.Mark.TheVariants.{Stamp}
 use Rattle.places.specs.declared.place.Change.{Change}
 use Rattle.places.specs.declared.place.Change.TheVariants as change
 use Rattle.order.specs.Keys.{Key}
-use Rattle.order.specs.Marks.{Earlier, Marks, Sound}
+use Rattle.order.specs.Marks.{Earlier, Marks, MarksSound}
 use Rattle.order.specs.Finds.{VertexFound}
-use Rattle.runs.specs.Runs.{Run}
+use Rattle.runs.specs.Runs.{RunInTime}
 use Rattle.runs.specs.Views.{clock_at, head_at, mark_at}
 use Rattle.runs.specs.Known.{TurnOf, Living, LinkEvent, ChangeEvent}
-use Rattle.runs.specs.Events.{Ending}
-use Rattle.runs.specs.Marking.{time_bound, MarksTell}
+use Rattle.runs.specs.Events.{EndEventOfKind}
+use Rattle.runs.specs.Marking.{time_bound, MarksTellRun}
 
-module _ (R : Run) (now : ℕ) where
+module _ (R : RunInTime) (now : ℕ) where
   -- the key of a turn at time t at which a call reads, and the key right after a change with stamp n at time p, for the call that began at b
   abbrev pub turn_key : ℕ → Key
   turn_key t = record { stamp = clock_at R t; time = t; part = 0 }
@@ -36,7 +36,7 @@ module _ (R : Run) (now : ℕ) where
     -- a row of the key is there right after its birth
     pub born : (b i r a q n : ℕ) → LinkEvent R q a (change.Vertex i) r → q < now → mark_at R now Vertex Ins r ≡ Stamp n → VertexFound (time_bound now) m (after_key n q b) i true
     -- none is there right after the end of one of them
-    pub ended : (b i r p n : ℕ) → m.key_of r ≡ i → Ending R Vertex r p → p < now → mark_at R now Vertex Del r ≡ Stamp n → VertexFound (time_bound now) m (after_key n p b) i false
+    pub ended : (b i r p n : ℕ) → m.key_of r ≡ i → EndEventOfKind R Vertex r p → p < now → mark_at R now Vertex Del r ≡ Stamp n → VertexFound (time_bound now) m (after_key n p b) i false
 
 abbrev pub RunsFindVertices : Type 0
-RunsFindVertices = (R : Run) (now : ℕ) (m : Marks) → MarksTell R now m → Sound (time_bound now) (clock_at R now) m → VertexFinds R now m
+RunsFindVertices = (R : RunInTime) (now : ℕ) (m : Marks) → MarksTellRun R now m → MarksSound (time_bound now) (clock_at R now) m → VertexFinds R now m

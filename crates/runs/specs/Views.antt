@@ -8,12 +8,12 @@ use Rattle.layout.specs.declared.names.Cell.TheVariants as cell
 use Rattle.places.specs.declared.mark.Mark.{Mark}
 use Rattle.places.specs.declared.place.Place.{Place}
 use Rattle.places.specs.Marks.{mark_of}
-use Rattle.stepper.specs.Turns.{worker_at}
+use Rattle.machine.specs.Turns.{worker_at}
 use Rattle.laws.specs.Fits.{Linked}
 use Rattle.laws.specs.Changes.{number_in}
-use Rattle.runs.specs.Runs.{Run}
+use Rattle.runs.specs.Runs.{RunInTime}
 
-module _ (R : Run) where
+module _ (R : RunInTime) where
   abbrev pub number_at : ℕ → Cell → ℕ
   number_at k c = number_in (R.state k) c
 

@@ -3,13 +3,13 @@ use Rattle.std.specs.Prelude.{◌≡◌, ℕ, zero, suc, List, [], ◌∷◌, �
 use Rattle.std.proofs.Common.{lit≤}
 use Rattle.codes.specs.declared.answer.Answer.TheVariants.{EdgePresent, EdgeRemoved, EdgeAbsent}
 use Rattle.layout.specs.declared.sizes.Sizes.{Sizes}
-use Rattle.stepper.specs.declared.worker.Worker.{Worker}
-use Rattle.stepper.specs.declared.request.Request.{Request}
-use Rattle.stepper.specs.declared.request.Request.TheVariants.{Begin, Turn}
-use Rattle.stepper.specs.declared.request.Reply.TheVariants.{Answered}
-use Rattle.stepper.specs.States.{State}
-use Rattle.stepper.specs.Workers.{fresh}
-use Rattle.stepper.specs.Requests.{reply_of, stepped}
+use Rattle.machine.specs.declared.worker.Worker.{Worker}
+use Rattle.machine.specs.declared.request.Request.{Request}
+use Rattle.machine.specs.declared.request.Request.TheVariants.{Begin, Turn}
+use Rattle.machine.specs.declared.request.Reply.TheVariants.{Answered}
+use Rattle.machine.specs.States.{State}
+use Rattle.machine.specs.Workers.{fresh}
+use Rattle.machine.specs.Requests.{reply_of, stepped}
 use Rattle.laws.specs.Clean.{Clean}
 use Rattle.order.specs.Started.{two_joined}
 use Rattle.runs.specs.Starts.{ShowsGraph}

@@ -1,1 +1,9 @@
+pub mod Answering
 mod CodesOf
+pub mod GivingBack
+pub mod Opening
+mod Passing
+mod Servicing
+pub mod Serving
+pub mod Total
+pub mod Keeping

@@ -1,3 +1,8 @@
-pub mod Desks
+pub mod Sessions
+pub mod Kept
 pub mod Answers
-pub mod Lines
+pub mod Texts
+pub mod Served
+pub mod Laws
+pub mod Feeding
+pub mod Service

@@ -1,117 +1,169 @@
-// The reply to a frame.
-ghost use Rattle.std.specs.Prelude.{◌≡◌, None, Ok};
-ghost use Rattle.frames.specs.Frames.{frame_in};
-ghost use Rattle.frames.specs.Hex.{bytes_of};
-ghost use Rattle.stepper.specs.States.{state_of};
-ghost use Rattle.session.specs.Desks.{session_of, Session.Running as Serving, Session.Shut as Waiting};
-ghost use Rattle.session.specs.Answers.{Opens, Begins, Gives, Replies};
+// The reply to a frame, written into an area.
+ghost use Rattle.std.specs.Prelude.{◌≡◌, ◌≤◌, length, Ok};
+ghost use Rattle.frames.specs.Replies.{fed};
+ghost use Rattle.frames.specs.Areas.{PutWhole};
+ghost use Rattle.frames.specs.declared.frame.Frame.TheVariants.{Open};
+ghost use Rattle.machine.specs.Requests.{take_refused};
+ghost use Rattle.stepper.specs.Runs.{state_of, memory_of as run_memory};
+ghost use Rattle.session.specs.Sessions.{session_of, memory_of, SessionState.Running as Serving, SessionState.Shut as Waiting};
+ghost use Rattle.session.specs.Answers.{page_or};
+ghost use Rattle.session.specs.Served.{line_len, RepliesInto};
 
-use crate::desk::Desk;
+use crate::ask::{begin, open, reopen, shown, turns};
+use crate::states::Session;
 use cells::CellMemory;
-use frames::{Code, Frame, Reply};
+use codes::Refusal;
+use frames::{Frame, Reply, put_page, put_reply};
 use layout::opening::Opening;
-use layout::sizes::Sizes;
-use places::call::Begin;
 use stepper::run::Run;
 
-// A session and the reply to its latest line.
+/// A session after a frame, and where its reply line ends in the area; none where the line did not fit.
 #[derive(Drop)]
-pub struct Answered<M> {
-    pub desk: Desk<M>,
-    pub reply: Reply,
+pub struct Answered<M: CellMemory> {
+    pub session: Session<M>,
+    pub end: Option<usize>,
 }
 
-// Begins a call; a refusal changes nothing.
-fn begin<M: CellMemory>(run: &mut Run<M>, begin: Begin) -> Code
-    ensures { Begins begin (state_of M.cells run.old) (Reply.ToBegin result) (Serving (state_of M.cells run.new)) }
-{
-    run.begin(begin)?;
-    Ok(None)
-}
-
-// Gives turns. A refused worker has used none, so a refusal has a count beside it and no `?` passes it on.
-fn turns<M: CellMemory>(run: &mut Run<M>, worker: u8, count: u8) -> Reply
-    ensures { Gives worker count (state_of M.cells run.old) result (Serving (state_of M.cells run.new)) }
-{
-    match run.turns(worker, count) {
-        Ok(several) => Reply::ToTurns(Ok(several.answer), several.used),
-        Err(refusal) => Reply::ToTurns(Err(refusal), 0),
-    }
-}
-
-// Opens anew; a refusal leaves the run that was open.
-fn reopen<M: CellMemory>(run: &mut Run<M>, opening: Opening) -> Code
-    ensures { Opens opening (Serving (state_of M.cells run.old)) (Reply.ToOpen result) (Serving (state_of M.cells run.new)) }
-{
-    run.reopen(opening.try_into()?)?;
-    Ok(None)
-}
-
-// Opens; a refusal gives the memory back as it was.
-fn open<M: CellMemory>(memory: M, opening: Opening) -> Answered<M>
-    ensures { Opens opening (Waiting (M.cells memory)) result.reply (session_of M.cells result.desk) }
-{
-    // The memory goes along with a refusal, so no `?`.
-    let opened = match Sizes::try_from(opening) {
-        Ok(sizes) => Run::open(memory, sizes),
-        Err(refusal) => Err((memory, refusal)),
-    };
-    match opened {
-        Ok(run) => Answered {
-            desk: Desk::Open(run),
-            reply: Reply::ToOpen(Ok(None)),
-        },
-        Err((memory, refusal)) => Answered {
-            desk: Desk::Closed(memory),
-            reply: Reply::ToOpen(Err(refusal)),
-        },
-    }
-}
-
-// The reply to a frame, or to none, while a run is open. One arm for each sort of frame, as in `Replies`, so a match.
-pub fn answer_open<M: CellMemory>(run: &mut Run<M>, frame: Option<Frame>) -> Reply
-    ensures { Replies (Serving (state_of M.cells run.old)) frame result (Serving (state_of M.cells run.new)) }
+// The fewest bytes of a line that replies to a frame while a run is open, with its line feed. Only that of a page may be longer.
+fn line_len(frame: Frame) -> usize
+    ensures { result ≡ line_len frame }
 {
     match frame {
-        Some(Frame::Turns { worker, count }) => turns(run, worker, count),
-        Some(Frame::Begin(frame)) => Reply::ToBegin(begin(run, frame)),
-        Some(Frame::Open(opening)) => Reply::ToOpen(reopen(run, opening)),
-        Some(Frame::Take { .. }) | None => Reply::NoFrame,
+        Frame::Turns { .. } => 7,
+        _ => 5,
     }
 }
 
-// The reply while nothing is open: only an opening is a frame.
-fn answer_closed<M: CellMemory>(memory: M, frame: Option<Frame>) -> Answered<M>
-    ensures { Replies (Waiting (M.cells memory)) frame result.reply (session_of M.cells result.desk) }
+// Writes the line of the page of a worker, or of the refusal to take it. The run is as it was.
+fn show<M: CellMemory>(run: &mut Run<M>, worker: u8, out: &mut [u8], at: usize) -> Option<usize>
+    requires { at ≤ length out.old }
+    ensures line { PutWhole at (fed (page_or (take_refused (state_of M.cells run.old) worker) (state_of M.cells run.old) worker)) out.old out.new result }
+    ensures after { state_of M.cells run.new ≡ state_of M.cells run.old }
+    ensures spare { M.spare (run_memory run.new) ≡ M.spare (run_memory run.old) }
+    ensures name { M.name (run_memory run.new) ≡ M.name (run_memory run.old) }
+{
+    match shown(run, worker) {
+        Ok(page) => put_page(out, at, page.keys(), page.as_slice()),
+        Err(refusal) => put_reply(out, at, Reply::ToTake(refusal)),
+    }
+}
+
+// Does what a frame asks of an open run, where its reply fits.
+fn obey<M: CellMemory>(run: &mut Run<M>, frame: Frame, out: &mut [u8], at: usize) -> Option<usize>
+    requires { at ≤ length out.old }
+    ensures replies { RepliesInto (Serving (state_of M.cells run.old)) (Ok frame) at out.old out.new result (Serving (state_of M.cells run.new)) }
+    ensures spare { M.spare (run_memory run.new) ≡ M.spare (run_memory run.old) }
+    ensures name { M.name (run_memory run.new) ≡ M.name (run_memory run.old) }
+{
+    if out.len() - at < line_len(frame) {
+        return None;
+    }
+    match frame {
+        Frame::Turns { worker, count } => put_reply(out, at, turns(run, worker, count)),
+        Frame::Begin(call) => put_reply(out, at, Reply::ToBegin(begin(run, call))),
+        Frame::Open(opening) => put_reply(out, at, Reply::ToOpen(reopen(run, opening))),
+        Frame::Take { worker } => show(run, worker, out, at),
+    }
+}
+
+/// Replies to a frame, or to a line that is none, while a run is open. The reply line is written into `out` from `at` on, with
+/// its line feed, and the result is where it ends. Where it does not fit whole, the result is none: nothing is written, and the
+/// frame is not carried out.
+pub fn answer_open<M: CellMemory>(
+    run: &mut Run<M>,
+    frame: Result<Frame, Refusal>,
+    out: &mut [u8],
+    at: usize,
+) -> Option<usize>
+    requires { at ≤ length out.old }
+    ensures replies { RepliesInto (Serving (state_of M.cells run.old)) frame at out.old out.new result (Serving (state_of M.cells run.new)) }
+    ensures spare { M.spare (run_memory run.new) ≡ M.spare (run_memory run.old) }
+    ensures name { M.name (run_memory run.new) ≡ M.name (run_memory run.old) }
 {
     match frame {
-        Some(Frame::Open(opening)) => open(memory, opening),
+        Ok(frame) => obey(run, frame, out, at),
+        Err(_) => put_reply(out, at, Reply::NoFrame),
+    }
+}
+
+// Opens, where the reply fits.
+fn begin_run<M: CellMemory>(memory: M, opening: Opening, out: &mut [u8], at: usize) -> Answered<M>
+    requires { at ≤ length out.old }
+    ensures replies { RepliesInto (Waiting (M.cells memory)) (Ok (Open opening)) at out.old out.new result.end (session_of M.cells result.session) }
+    ensures spare { M.spare (memory_of result.session) ≡ M.spare memory }
+    ensures name { M.name (memory_of result.session) ≡ M.name memory }
+{
+    if out.len() - at < line_len(Frame::Open(opening)) {
+        return Answered {
+            session: Session::Closed(memory),
+            end: None,
+        };
+    }
+    let opened = open(memory, opening);
+    Answered {
+        session: opened.session,
+        end: put_reply(out, at, Reply::ToOpen(opened.code)),
+    }
+}
+
+// Replies to a frame while nothing is open: only an opening is one.
+fn answer_closed<M: CellMemory>(memory: M, frame: Frame, out: &mut [u8], at: usize) -> Answered<M>
+    requires { at ≤ length out.old }
+    ensures replies { RepliesInto (Waiting (M.cells memory)) (Ok frame) at out.old out.new result.end (session_of M.cells result.session) }
+    ensures spare { M.spare (memory_of result.session) ≡ M.spare memory }
+    ensures name { M.name (memory_of result.session) ≡ M.name memory }
+{
+    match frame {
+        Frame::Open(opening) => begin_run(memory, opening, out, at),
         _ => Answered {
-            desk: Desk::Closed(memory),
-            reply: Reply::NoFrame,
+            session: Session::Closed(memory),
+            end: put_reply(out, at, Reply::NoFrame),
         },
     }
 }
 
-// The reply to a frame, or to a line that is none.
-pub fn answer_frame<M: CellMemory>(desk: Desk<M>, frame: Option<Frame>) -> Answered<M>
-    ensures { Replies (session_of M.cells desk) frame result.reply (session_of M.cells result.desk) }
+// Replies to a frame, or to a line that is none, while nothing is open.
+fn answer_waiting<M: CellMemory>(
+    memory: M,
+    frame: Result<Frame, Refusal>,
+    out: &mut [u8],
+    at: usize,
+) -> Answered<M>
+    requires { at ≤ length out.old }
+    ensures replies { RepliesInto (Waiting (M.cells memory)) frame at out.old out.new result.end (session_of M.cells result.session) }
+    ensures spare { M.spare (memory_of result.session) ≡ M.spare memory }
+    ensures name { M.name (memory_of result.session) ≡ M.name memory }
 {
-    match desk {
-        Desk::Closed(memory) => answer_closed(memory, frame),
-        Desk::Open(mut run) => {
-            let reply = answer_open(&mut run, frame);
+    match frame {
+        Ok(frame) => answer_closed(memory, frame, out, at),
+        Err(_) => Answered {
+            session: Session::Closed(memory),
+            end: put_reply(out, at, Reply::NoFrame),
+        },
+    }
+}
+
+/// Replies to a frame, or to a line that is none, as `answer_open` does, whether or not a run is open. While nothing is open,
+/// only an opening is a frame.
+pub fn answer<M: CellMemory>(
+    session: Session<M>,
+    frame: Result<Frame, Refusal>,
+    out: &mut [u8],
+    at: usize,
+) -> Answered<M>
+    requires { at ≤ length out.old }
+    ensures replies { RepliesInto (session_of M.cells session) frame at out.old out.new result.end (session_of M.cells result.session) }
+    ensures spare { M.spare (memory_of result.session) ≡ M.spare (memory_of session) }
+    ensures name { M.name (memory_of result.session) ≡ M.name (memory_of session) }
+{
+    match session {
+        Session::Closed(memory) => answer_waiting(memory, frame, out, at),
+        Session::Open(mut run) => {
+            let end = answer_open(&mut run, frame, out, at);
             Answered {
-                desk: Desk::Open(run),
-                reply,
+                session: Session::Open(run),
+                end,
             }
         }
     }
-}
-
-// The reply to a line.
-pub fn answer<M: CellMemory>(desk: Desk<M>, line: &[u8]) -> Answered<M>
-    ensures { Replies (session_of M.cells desk) (frame_in (bytes_of line.now)) result.reply (session_of M.cells result.desk) }
-{
-    answer_frame(desk, frames::parse(line))
 }

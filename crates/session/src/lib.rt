@@ -2,5 +2,8 @@
 #![tactic(auto)]
 
 pub mod answer;
-pub mod desk;
-pub mod lines;
+mod ask;
+pub mod facts;
+mod held;
+pub mod serve;
+pub mod states;

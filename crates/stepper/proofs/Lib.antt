@@ -1,6 +1,3 @@
-mod Clearing
-mod Extending
-mod Starts
-pub mod Stages
-mod Busy
-mod Giving
+mod Copying
+mod Asking
+mod Starting

@@ -1,8 +1,4 @@
-pub mod Workers
-pub mod States
-pub mod Opening
-pub mod Effects
-pub mod Turns
-pub mod Requests
-pub mod History
-pub mod Several
+pub mod Runs
+pub mod Asked
+pub mod Lent
+pub mod Promised

@@ -1,15 +1,16 @@
 // A run of the versioned contact graph, one atomic step a turn, over any cell memory.
 #![tactic(auto)]
 
+mod advance;
 pub mod begin;
-pub mod board;
-pub mod laws;
+pub mod lent;
+mod named;
 pub mod open;
-pub mod perform;
-pub mod request;
+pub mod page_cells;
+pub mod pages;
+mod perform;
+pub mod questions_to_pages;
 pub mod run;
-pub mod seat;
 pub mod several;
-pub mod table;
+pub mod ticket;
 pub mod turn;
-pub mod worker;

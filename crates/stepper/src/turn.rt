@@ -1,105 +1,64 @@
 // One turn of a worker.
 ghost use Rattle.std.specs.Prelude.{◌≡◌, ◌<◌, ◌≤◌, IfOk, MatchResult};
 ghost use Rattle.std.specs.Result.{result_err};
-ghost use Rattle.stepper.specs.States.{state_of};
-ghost use Rattle.stepper.specs.Requests.{turn_refused, turn_answer, answered_or, stepped};
-ghost use Rattle.stepper.specs.History.{Extends};
-ghost use Rattle.stepper.specs.declared.request.Request.TheVariants.{Turn};
+ghost use Rattle.stepper.specs.Runs.{memory_of, state_of};
+ghost use Rattle.machine.specs.Requests.{turn_refused, turn_answer, answered_or, stepped};
+ghost use Rattle.machine.specs.History.{Extends};
+ghost use Rattle.promise.specs.Promise.{PromiseKept};
+ghost use Rattle.machine.specs.declared.request.Request.TheVariants.{Turn};
 ghost use Rattle.codes.specs.declared.refusal.Refusal.TheVariants.{NoSuchWorker};
-ghost use Rattle.stepper.specs.Turns.{worker_at, spare_for, older_at, edge_at, hand_at, answer_at, turned};
+ghost use Rattle.machine.specs.Turns.{answer_at, turned};
 
-use crate::board::Board;
+use crate::advance::advance;
 use crate::run::Run;
-use crate::seat::Seat;
 use cells::CellMemory;
 use codes::{Answer, Refusal};
-use layout::names::{Cell, Kind};
-use layout::rows::NO_ROW;
-use places::place::Hand;
-
-impl<M: CellMemory> Board<M> {
-    // Older of a row, where one is wanted.
-    fn older(&self, row: Option<(Kind, u32)>) -> u32
-        ensures { result ≡ older_at self.now.sizes (M.cells self.now.memory) row }
-    {
-        row.map_or(NO_ROW, |(kind, row)| self.get(Cell::Older(kind, row)))
-    }
-
-    // A cell of an edge row, where one is wanted.
-    fn edge(&self, row: u32, cell: Cell) -> u32
-        ensures { result ≡ edge_at self.now.sizes (M.cells self.now.memory) cell row }
-    {
-        if row == NO_ROW { 0 } else { self.get(cell) }
-    }
-}
+use machine::worker_index::WorkerIndex;
 
 impl<M: CellMemory> Run<M> {
-    // The seat of a worker that there is.
-    pub(crate) fn seat(&self, w: u8) -> Result<Seat, Refusal>
-        ensures { MatchResult result (λ s. (s.index ≡ w) × (w < self.now.board.sizes.workers)) (λ e. (e ≡ NoSuchWorker) × (self.now.board.sizes.workers ≤ w)) }
+    // The index of a worker that there is.
+    pub(crate) fn worker_index(&self, w: u8) -> Result<WorkerIndex, Refusal>
+        ensures { MatchResult result (λ i. (i.index ≡ w) × (w < self.now.table.sizes.workers)) (λ e. (e ≡ NoSuchWorker) × (self.now.table.sizes.workers ≤ w)) }
     {
-        if w as usize >= self.board.sizes.workers {
+        if w as usize >= self.table.sizes.workers {
             return Err(Refusal::NoSuchWorker);
         }
-        Ok(Seat { index: w })
+        Ok(WorkerIndex { index: w })
     }
 
-    // The worker's next row of the kind that it links.
-    fn spare(&self, seat: Seat, kind: Option<Kind>) -> Option<u32>
-        ensures { result ≡ spare_for self.now.board.sizes seat.index (worker_at (state_of M.cells self.now) seat.index) kind }
+    // A turn of a worker.
+    pub(crate) fn advance(&mut self, index: WorkerIndex) -> Option<Answer>
+        ensures answer { result ≡ answer_at (state_of M.cells self.old) index.index }
+        ensures after { state_of M.cells self.new ≡ turned (state_of M.cells self.old) index.index }
+        ensures spare { M.spare (memory_of self.new) ≡ M.spare (memory_of self.old) }
+        ensures name { M.name (memory_of self.new) ≡ M.name (memory_of self.old) }
     {
-        let kind = kind?;
-        let linked = self.table.worker(seat).linked(kind);
-        self.board.sizes.row_at(kind, seat.index, linked)
+        advance(&mut self.memory, &mut self.table, index)
     }
 
-    // What the worker has at hand without a turn.
-    fn hand(&self, seat: Seat) -> Hand
-        ensures { result ≡ hand_at (state_of M.cells self.now) seat.index }
-    {
-        let worker = self.table.worker(seat);
-        let edge = worker.place.edge_row();
-        Hand {
-            spare: self.spare(seat, worker.place.link_kind()),
-            t: worker.book.t,
-            older: self.board.older(worker.place.older_row()),
-            source: self.board.edge(edge, Cell::Source(edge)),
-            target: self.board.edge(edge, Cell::Target(edge)),
-            weight: self.board.edge(edge, Cell::Weight(edge)),
-        }
-    }
-
-    // One turn: one touch, and what follows from the place and what the touch gave.
-    pub(crate) fn advance(&mut self, seat: Seat) -> Option<Answer>
-        ensures answer { result ≡ answer_at (state_of M.cells self.old) seat.index }
-        ensures after { state_of M.cells self.new ≡ turned (state_of M.cells self.old) seat.index }
-    {
-        let hand = self.hand(seat);
-        let touch = self.table.worker(seat).place.touch(hand.spare);
-        let got = self.board.perform(touch);
-        let step = self.table.follow(seat, self.board.sizes, hand, got);
-        self.board.enter(seat.index, step.entry);
-        step.answer
-    }
-
-    // The seat of a worker that is in a call, or why its turn is refused.
-    pub fn turn_refused(&self, w: u8) -> Result<Seat, Refusal>
+    // The index of a worker that is in a call, or why its turn is refused.
+    pub(crate) fn busy_worker(&self, w: u8) -> Result<WorkerIndex, Refusal>
         ensures answer { result_err result ≡ turn_refused (state_of M.cells self.now) w }
-        ensures seat { IfOk result (λ s. s.index ≡ w) }
+        ensures index { IfOk result (λ i. i.index ≡ w) }
     {
-        let seat = self.seat(w)?;
-        if self.table.worker(seat).is_idle() {
+        let index = self.worker_index(w)?;
+        if self.table.worker(index).is_idle() {
             return Err(Refusal::WorkerIdle);
         }
-        Ok(seat)
+        Ok(index)
     }
 
+    /// One turn of worker `w`, counted from 0: at most one touch of a shared cell. It answers `None` while the call is still
+    /// running, or the answer that finished it. Refused with `NoSuchWorker` or `WorkerIdle`, and then nothing changes.
     pub fn turn(&mut self, w: u8) -> Result<Option<Answer>, Refusal>
         ensures answer { result ≡ turn_answer (state_of M.cells self.old) w }
         ensures after { state_of M.cells self.new ≡ stepped (state_of M.cells self.old) (Turn w) }
+        ensures spare { M.spare (memory_of self.new) ≡ M.spare (memory_of self.old) }
+        ensures name { M.name (memory_of self.new) ≡ M.name (memory_of self.old) }
         ensures history { Extends (state_of M.cells self.old) (state_of M.cells self.new) (Turn w) (answered_or result) }
+        ensures promise { PromiseKept (state_of M.cells self.old) (state_of M.cells self.new) (Turn w) (answered_or result) }
     {
-        let seat = self.turn_refused(w)?;
-        Ok(self.advance(seat))
+        let index = self.busy_worker(w)?;
+        Ok(self.advance(index))
     }
 }

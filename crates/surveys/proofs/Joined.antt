@@ -7,14 +7,14 @@ use Rattle.places.specs.declared.place.Survey.{Survey}
 use Rattle.places.specs.declared.place.Survey.TheVariants.{Snapshot, Reach}
 use Rattle.places.specs.declared.place.Call.{Call}
 use Rattle.places.specs.declared.place.Call.TheVariants as call
-use Rattle.stepper.specs.Workers as workers
+use Rattle.machine.specs.Workers as workers
 use Rattle.questions.specs.Graph.{Graph, on}
 use Rattle.order.specs.Graph.{Reached}
 use Rattle.order.specs.Marks.{Marks}
 use Rattle.order.specs.Raises.{ShowsVisible}
-use Rattle.runs.specs.Runs.{Run}
-use Rattle.runs.specs.Purposes.{Made}
-use Rattle.runs.specs.Reasons.{Why, Why.vertex_made, Why.vertex_here, Why.vertex_won, Why.vertex_gone, Why.vertex_ended, Why.ended_below, Why.edge_made, Why.edge_here, Why.edge_missed, Why.rows_spent, Right}
+use Rattle.runs.specs.Runs.{RunInTime}
+use Rattle.runs.specs.Purposes.{MadeChange}
+use Rattle.runs.specs.Reasons.{Why, Why.vertex_made, Why.vertex_here, Why.vertex_won, Why.vertex_gone, Why.vertex_ended, Why.ended_below, Why.edge_made, Why.edge_here, Why.edge_missed, Why.rows_spent, HasReason}
 use Rattle.walks.specs.Surveys.{Says}
 
 -- a graph of visible rows
@@ -45,7 +45,7 @@ not_page : (a b : Answer) → a ≡ b → workers.finishes b ≡ false → worke
 not_page a b e f q = (let x = sym (ap workers.finishes e ∙ f) ∙ q in cc)
 
 -- no other call finishes a page
-why_not : (R : Run) (k b : ℕ) (c : Call) (m : Option Made) (a : Answer) → Why R k b c m a → workers.finishes a ≡ true → ⊥
+why_not : (R : RunInTime) (k b : ℕ) (c : Call) (m : Option MadeChange) (a : Answer) → Why R k b c m a → workers.finishes a ≡ true → ⊥
 why_not R k b c m a (vertex_made Ins i r o d e x y z) f = not_page a _ e refl f
 why_not R k b c m a (vertex_made Del i r o d e x y z) f = not_page a _ e refl f
 why_not R k b c m a (vertex_here i r o (inl e) x) f = not_page a _ e.1 refl f
@@ -61,7 +61,7 @@ why_not R k b c m a (edge_here p d s o q (inr e) y) f = not_page a _ e.1 refl f
 why_not R k b c m a (edge_missed p d s o q e y z) f = not_page a _ e refl f
 why_not R k b c m a (rows_spent d o q e y) f = not_page a _ e refl f
 
-pub page_survey : (R : Run) (k b : ℕ) (c : Call) (m : Option Made) (a : Answer) → Right R k b c m a → workers.finishes a ≡ true → (v : Survey) × (c ≡ call.Survey v)
+pub page_survey : (R : RunInTime) (k b : ℕ) (c : Call) (m : Option MadeChange) (a : Answer) → HasReason R k b c m a → workers.finishes a ≡ true → (v : Survey) × (c ≡ call.Survey v)
 page_survey R k b (call.Survey v) m a r f = (v, refl)
 page_survey R k b (call.Vertex o i) m a r f = absurd (why_not R k b (call.Vertex o i) m a r f)
 page_survey R k b (call.Edge o p) m a r f = absurd (why_not R k b (call.Edge o p) m a r f)

@@ -1,10 +1,12 @@
-mod Raises
+pub mod Raises
 mod PagesSeen
 mod PagesStay
 mod Walks
 pub mod Raised
 mod Past
-mod Only
+pub mod Only
 mod Found
 mod Joined
-mod Marked
+pub mod Marked
+mod Records
+pub mod Theorems

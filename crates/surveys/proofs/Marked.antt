@@ -6,57 +6,60 @@ use Rattle.codes.specs.declared.answer.Answer.TheVariants.{ClockSpent}
 use Rattle.places.specs.declared.place.Survey.{Survey}
 use Rattle.places.specs.declared.place.Call.{Call}
 use Rattle.places.specs.declared.place.Call.TheVariants as call
-use Rattle.stepper.specs.Workers as workers
-use Rattle.laws.specs.Sound.{RunsSound, RunsKeepLaws}
-use Rattle.laws.specs.Stamps.{RunsStamp}
+use Rattle.machine.specs.Workers as workers
 use Rattle.order.specs.Past.{Finish, Past, fed_until, fed_as, fed}
 use Rattle.order.specs.Keys.{Key, Fits}
-use Rattle.order.specs.Marks.{Mark, Marks, Sound}
+use Rattle.order.specs.Marks.{Mark, Marks, MarksSound}
 use Rattle.order.specs.Rows.{graph_before}
-use Rattle.order.specs.Raises.{Settled, AllSettled, raise_key, RaiseMeets, RaisesShowVisible}
+use Rattle.order.specs.Raises.{Settled, AllSettled, raise_key, RaiseMeets}
 use Rattle.order.specs.Finds.{RowChange, no_change, makes_change, Finds, Finds.ends_spent}
-use Rattle.order.specs.Seen.{Sight.begins, finish_by, call_begun}
+use Rattle.order.specs.Seen.{CallSight.begins, finish_by, call_begun}
 use Rattle.order.specs.Marked.{Marking, end_of, RaiseKey, Told, CallMarked}
-use Rattle.runs.specs.Runs.{Run}
+use Rattle.runs.specs.Runs.{RunInTime}
 use Rattle.runs.specs.Views.{clock_at}
 use Rattle.runs.specs.Seen.{seen, open_at}
 use Rattle.runs.specs.Known.{TurnOf}
-use Rattle.runs.specs.Times.{RunsLast}
-use Rattle.runs.specs.Reasons.{BegunBy, AnswerRight, RunsKnow}
-use Rattle.runs.specs.Marking.{time_bound, MarksTell, RunsMarked}
-use Rattle.runs.specs.Sights.{AnswerAt, RunsSeen}
+use Rattle.runs.specs.Reasons.{BegunBy, AnswerRight}
+use Rattle.runs.specs.Marking.{time_bound, MarksTellRun}
+use Rattle.runs.specs.Sights.{AnswerAt}
 use Rattle.runs.specs.VertexFinds.{turn_key}
 use Rattle.walks.specs.Pages.{graph_of}
 use Rattle.walks.specs.Surveys.{Says}
 use Rattle.walks.specs.Turns.{goes}
 use Rattle.walks.specs.Placed.{RightAtRaise}
 use Rattle.walks.specs.Histories.{run_course}
-use Rattle.walks.specs.Marking.{RunsTellMarks}
-use Rattle.walks.specs.Calls.{RunsSurvey}
-use Rattle.walks.specs.Answered.{RunsPagesRight}
 use Rattle.bounds.proofs.Open.{some_same, worker_is}
-use Rattle.surveys.specs.Raises.{raise_by, RunsRaise, RunsSettle}
-use Rattle.surveys.specs.Pages.{PagesSeen, PagesJoin}
+use Rattle.surveys.specs.Raises.{raise_before}
+use Rattle.surveys.specs.Pages.{PagesJoin}
 use Rattle.surveys.specs.Marked.{run_past, run_marking, key_from, survey_key, SurveyMarked, SurveysMarked}
 use Rattle.surveys.proofs.Raised.{Raised, Ended, spent, shown, ended}
 use Rattle.surveys.proofs.Past.{finish_of}
 use Rattle.surveys.proofs.Found.{found}
 use Rattle.surveys.proofs.Joined.{says_joins, page_survey}
+use Rattle.runs.proofs.Times.{runs_last as last}
+use Rattle.order.proofs.Raises.{raises_show_visible as show}
+use Rattle.walks.proofs.RunMarks.{runs_tell_marks as tells}
+use Rattle.walks.proofs.RunAnswers.{runs_pages_right as right}
+use Rattle.surveys.proofs.Raises.{runs_settle as settle}
+use Rattle.surveys.proofs.PagesSeen.{pages_seen as pages}
+use Rattle.runs.proofs.Knows.{runs_know as know}
+use Rattle.runs.proofs.Sights.{runs_seen as sees}
+use Rattle.runs.proofs.MarkSound.{runs_marked as marks}
 
 same_begins : {v w : ℕ} {c d : Call} → begins v c ≡ begins w d → (v ≡ w) × (c ≡ d)
 same_begins e = (cc, cc)
 
 -- what is known of the call: who began it, and the turn that answered
-pub record Answers (R : Run) (now w b : ℕ) (v : Survey) (f : Finish) : Type 0 where
+pub record Answers (R : RunInTime) (now w b : ℕ) (v : Survey) (f : Finish) : Type 0 where
   pub inside : w < R.sizes.workers
   pub early : f.time < now
   pub begun : BegunBy R f.time w b (call.Survey v)
   pub opened : open_at R f.time w ≡ Some b
   pub at : AnswerAt R f.time w f.answer f.page
 
-answers : RunsSound → RunsKeepLaws → RunsStamp → RunsKnow → RunsSeen → (R : Run) (now w b : ℕ) (v : Survey) (f : Finish) → seen R b ≡ begins w (call.Survey v) →
+answers : (R : RunInTime) (now w b : ℕ) (v : Survey) (f : Finish) → seen R b ≡ begins w (call.Survey v) →
     finish_by (seen R) now b ≡ Some f → Answers R now w b v f
-answers sound keep stamps know sees R now w b v f e q =
+answers R now w b v f e q =
     let x = finish_of (seen R) b now f q in
     let at = (sees R).finished f.time x.worker f.answer f.page x.finished in
     let r : AnswerRight R f.time x.worker f.answer = (know R).answers f.time x.worker f.answer at.asked at.reply in
@@ -65,14 +68,14 @@ answers sound keep stamps know sees R now w b v f e q =
     let s = same_begins (sym ((sees R).begun f.time x.worker b r.call by) ∙ e) in
     let by' : BegunBy R f.time w b (call.Survey v) = subst₂ (λ y c. BegunBy R f.time y b c) s.0 s.1 by in
     record {
-      inside = worker_is sound keep stamps know R f.time w b (call.Survey v) by';
+      inside = worker_is R f.time w b (call.Survey v) by';
       early = x.before;
       begun = by';
       opened = subst (λ y. open_at R f.time y ≡ Some b) s.0 x.whose;
       at = subst (λ y. AnswerAt R f.time y f.answer f.page) s.0 at;
     }
 
-module _ (last : RunsLast) (R : Run) (now : ℕ) where
+module _ (R : RunInTime) (now : ℕ) where
   clock_later : (j k : ℕ) → j ≤ k → clock_at R j ≤ clock_at R k
   clock_later j k l = ((last R).times j k l).clock
 
@@ -91,9 +94,8 @@ module _ (last : RunsLast) (R : Run) (now : ℕ) where
   clock_then : (j : ℕ) → j ≤ now → ((run_course R now).at j).clock ≡ clock_at R j
   clock_then j l = ap (clock_at R) (let e : min j now ≡ j = omega arith in e)
 
-module _ (show : RaisesShowVisible) (tells : RunsTellMarks) (right : RunsPagesRight) (raise : RunsRaise) (settle : RunsSettle) (pages : PagesSeen) (survey : RunsSurvey)
-    (sound : RunsSound) (keep : RunsKeepLaws) (stamps : RunsStamp) (last : RunsLast) (know : RunsKnow) (R : Run) (now : ℕ) (m : Marks) (tell : MarksTell R now m)
-    (good : Sound (time_bound now) (clock_at R now) m) (w b : ℕ) (v : Survey) (f : Finish) (known : Answers R now w b v f) where
+module _ (R : RunInTime) (now : ℕ) (m : Marks) (tell : MarksTellRun R now m)
+    (good : MarksSound (time_bound now) (clock_at R now) m) (w b : ℕ) (v : Survey) (f : Finish) (known : Answers R now w b v f) where
   abbrev bound : ℕ
   bound = time_bound now
 
@@ -101,10 +103,10 @@ module _ (show : RaisesShowVisible) (tells : RunsTellMarks) (right : RunsPagesRi
   top = clock_at R now
 
   abbrev Ends : Type 0
-  Ends = Ended raise survey sound keep stamps know R w b v known.inside f.time known.begun known.opened f.answer known.at.asked known.at.reply now
+  Ends = Ended R w b v known.inside f.time known.begun known.opened f.answer known.at.asked known.at.reply now
 
   ends : Ends
-  ends = ended raise survey sound keep stamps know R w b v known.inside f.time known.begun known.opened f.answer known.at.asked known.at.reply now known.early
+  ends = ended R w b v known.inside f.time known.begun known.opened f.answer known.at.asked known.at.reply now known.early
 
   -- the key is that of a turn of the call
   pub record Keyed (k : Key) : Type 0 where
@@ -134,16 +136,16 @@ module _ (show : RaisesShowVisible) (tells : RunsTellMarks) (right : RunsPagesRi
     next = raised.step.next
 
     time_from : clock_at R at.time ≡ clock_at R r
-    time_from = sym (clock_then last R now at.time (omega (arith, at.before, known.early))) ∙ at.from ∙ sym from
+    time_from = sym (clock_then R now at.time (omega (arith, at.before, known.early))) ∙ at.from ∙ sym from
 
     time_next : clock_at R (suc at.time) ≡ suc (clock_at R r)
-    time_next = sym (clock_then last R now (suc at.time) (omega (arith, at.before, known.early))) ∙ at.next ∙ ap suc (sym from)
+    time_next = sym (clock_then R now (suc at.time) (omega (arith, at.before, known.early))) ∙ at.next ∙ ap suc (sym from)
 
     -- the clock moved from there once
     same_time : at.time ≡ r
     same_time = ⊎_elim
-        (λ (l : at.time < r). absurd (omega (arith, clock_later last R now (suc at.time) r l, time_next)))
-        (λ (l : r ≤ at.time). ⊎_elim (λ (u : r < at.time). absurd (omega (arith, clock_later last R now (suc r) at.time u, time_from, next))) (λ (u : at.time ≤ r). omega arith) (cases_lt r at.time))
+        (λ (l : at.time < r). absurd (omega (arith, clock_later R now (suc at.time) r l, time_next)))
+        (λ (l : r ≤ at.time). ⊎_elim (λ (u : r < at.time). absurd (omega (arith, clock_later R now (suc r) at.time u, time_from, next))) (λ (u : at.time ≤ r). omega arith) (cases_lt r at.time))
         (cases_lt at.time r)
 
     moved : clock_at R (suc r) ≢ clock_at R r
@@ -156,20 +158,20 @@ module _ (show : RaisesShowVisible) (tells : RunsTellMarks) (right : RunsPagesRi
     early = omega (arith, same_time, at.before, known.early)
 
     low : clock_at R r ≤ top
-    low = clock_later last R now r now (omega (arith, early))
+    low = clock_later R now r now (omega (arith, early))
 
     key : Key
     key = raise_key bound r (clock_at R r)
 
     meets : RaiseMeets bound top m (raise_key bound r (clock_at R r)) (clock_at R r)
-    meets = show (clock_at R) bound top m good r (clock_at R r) (omega (arith, early)) low (record { rises = clock_later last R now; from = refl; next = next }) settled
+    meets = show (clock_at R) bound top m good r (clock_at R r) (omega (arith, early)) low (record { rises = clock_later R now; from = refl; next = next }) settled
 
     page_is : f.page ≡ graph_of R.sizes.keys (goes (R.state f.time) w).page
     page_is = known.at.page ∙ pages R w b f.time v f.answer known.inside known.begun known.opened known.at.asked known.at.reply
 
     says : Says f.answer v (graph_before bound top m (raise_key bound r (clock_at R r))) f.page
     says = subst₂ (λ k p. Says f.answer v (graph_before bound top m k) p) (ap₂ (raise_key bound) same_time (sym from)) (sym page_is)
-        (at.says now bound top m known.early (tells R now m tell) good (all_course last R now at.time top m (subst (λ x. AllSettled (clock_at R) x top m) (sym same_time) settled))
+        (at.says now bound top m known.early (tells R now m tell) good (all_course R now at.time top m (subst (λ x. AllSettled (clock_at R) x top m) (sym same_time) settled))
         (omega (arith, same_time, early)) (omega (arith, from, low)))
 
     shown_keyed : Keyed (raise_key bound r (clock_at R r))
@@ -194,7 +196,7 @@ module _ (show : RaisesShowVisible) (tells : RunsTellMarks) (right : RunsPagesRi
       by_end (shown n r raised z from) = says_joins m (clock_at R r) _ f.page (meets n r raised from).shows f.answer v (says n r raised from) page i j x e
 
   -- what the past tells of the raise
-  raise_key_of : Ends → (run : Marking) → run.clock ≡ clock_at R → run.bound ≡ bound → run.top ≡ top → (t : ℕ) → raise_by R now b ≡ Some t → RaiseKey run (survey_key R now b f.time) t
+  raise_key_of : Ends → (run : Marking) → run.clock ≡ clock_at R → run.bound ≡ bound → run.top ≡ top → (t : ℕ) → raise_before R now b ≡ Some t → RaiseKey run (survey_key R now b f.time) t
   raise_key_of (spent e z) run c d u t q = absurd (let x : None ≡ Some t = sym (ap (option_map (clock_at R)) z) ∙ q in cc)
   raise_key_of (shown n r raised z from) run c d u t q =
       let x : clock_at R r ≡ t = some_same (sym (ap (option_map (clock_at R)) z) ∙ q) in
@@ -202,10 +204,10 @@ module _ (show : RaisesShowVisible) (tells : RunsTellMarks) (right : RunsPagesRi
         stamp = x;
         part = sym d;
         raised = ap (λ h. h (suc r)) c ∙ raised.step.next ∙ ap suc x;
-        high = omega (arith, u, x, raised.step.next, clock_later last R now (suc r) now (early n r raised from));
+        high = omega (arith, u, x, raised.step.next, clock_later R now (suc r) now (early n r raised from));
       })
 
-  module _ (sees : seen R b ≡ begins w (call.Survey v)) (finish : finish_by (seen R) now b ≡ Some f) (stamp : ℕ → Option ℕ) (lower_end : ℕ → Bool) (key_of : ℕ → Option Key)
+  module _ (starts : seen R b ≡ begins w (call.Survey v)) (finish : finish_by (seen R) now b ≡ Some f) (stamp : ℕ → Option ℕ) (lower_end : ℕ → Bool) (key_of : ℕ → Option Key)
       (change : ℕ → RowChange) (none : change b ≡ no_change) where
     abbrev h : Past
     h = run_past R now stamp lower_end
@@ -223,7 +225,7 @@ module _ (show : RaisesShowVisible) (tells : RunsTellMarks) (right : RunsPagesRi
     before_now = omega (arith, known.begun.before, known.early)
 
     begun_is : h.begun b ≡ Some (call.Survey v)
-    begun_is = ap (λ t. cond t (call_begun (seen R b)) None) (lt-ltb b now before_now) ∙ ap call_begun sees
+    begun_is = ap (λ t. cond t (call_begun (seen R b)) None) (lt-ltb b now before_now) ∙ ap call_begun starts
 
     fed_is : fed h b ≡ fed_until (call.Survey v) f.answer
     fed_is = ap₂ fed_as begun_is finish
@@ -237,11 +239,11 @@ module _ (show : RaisesShowVisible) (tells : RunsTellMarks) (right : RunsPagesRi
       early = before_now;
       bounded = record { time = omega (arith, owner.before, known.early); part = omega (arith, owner.part) };
       time = omega (arith, owner.turn.after);
-      low = omega (arith, owner.stamp, clock_later last R now 0 k.time (omega arith));
-      high = omega (arith, owner.stamp, clock_later last R now k.time now (omega (arith, owner.before, known.early)));
+      low = omega (arith, owner.stamp, clock_later R now 0 k.time (omega arith));
+      high = omega (arith, owner.stamp, clock_later R now k.time now (omega (arith, owner.before, known.early)));
       fits = subst (λ o. Fits (clock_at R) k b (end_of now o)) (sym finish) (record {
         time = owner.before;
-        stamp = omega (arith, owner.stamp, clock_later last R now k.time f.time owner.before);
+        stamp = omega (arith, owner.stamp, clock_later R now k.time f.time owner.before);
         since = inl (omega (arith, owner.turn.after));
         fair = omega (arith, owner.stamp);
       });
@@ -257,26 +259,24 @@ module _ (show : RaisesShowVisible) (tells : RunsTellMarks) (right : RunsPagesRi
     spent_key (spent e z) q = ap (λ o. key_from R now o f.time) z
     spent_key (shown n r raised z from) q = absurd (n q)
 
-    raised_from : Ends → f.answer ≢ ClockSpent → (t : ℕ) × (raise_by R now b ≡ Some t)
+    raised_from : Ends → f.answer ≢ ClockSpent → (t : ℕ) × (raise_before R now b ≡ Some t)
     raised_from (spent e z) q = absurd (q e)
     raised_from (shown n r raised z from) q = (clock_at R r, ap (option_map (clock_at R)) z)
 
     pub marked : SurveyMarked R now m stamp lower_end key_of change b f
     marked = record { owed = owed; turn = owner.turn; part = owner.part; spent = spent_key ends; raises = raised_from ends }
 
-pub pages_join : RaisesShowVisible → RunsTellMarks → RunsPagesRight → RunsRaise → RunsSettle → PagesSeen → RunsSurvey → RunsSound → RunsKeepLaws → RunsStamp → RunsLast →
-    RunsKnow → RunsSeen → RunsMarked → PagesJoin
-pages_join show tells right raise settle pages survey sound keep stamps last know sees marks R w f i j x a g e page edge =
+pub pages_join : PagesJoin
+pages_join R w f i j x a g e page edge =
     let at = (sees R).finished f w a g e in
     let r : AnswerRight R f w a = (know R).answers f w a at.asked at.reply in
     let c = page_survey R (suc f) r.began r.call _ a r.right page in
     let by : BegunBy R f w r.began (call.Survey c.0) = subst (BegunBy R f w r.began) c.1 r.begun in
     let all = marks R (suc f) in
-    joins show tells right raise settle pages survey sound keep stamps last know R (suc f) all.marks all.tells all.sound w r.began c.0 (record { time = f; answer = a; page = g })
-    (record { inside = worker_is sound keep stamps know R f w r.began (call.Survey c.0) by; early = omega arith; begun = by; opened = r.whose; at = at }) page i j x edge
+    joins R (suc f) all.marks all.tells all.sound w r.began c.0 (record { time = f; answer = a; page = g })
+    (record { inside = worker_is R f w r.began (call.Survey c.0) by; early = omega arith; begun = by; opened = r.whose; at = at }) page i j x edge
 
-pub surveys_marked : RaisesShowVisible → RunsTellMarks → RunsPagesRight → RunsRaise → RunsSettle → PagesSeen → RunsSurvey → RunsSound → RunsKeepLaws → RunsStamp → RunsLast →
-    RunsKnow → RunsSeen → SurveysMarked
-surveys_marked show tells right raise settle pages survey sound keep stamps last know sees R now m tell good stamp lower_end key change w b v f begun finish none =
-    let known = answers sound keep stamps know sees R now w b v f begun finish in
-    marked show tells right raise settle pages survey sound keep stamps last know R now m tell good w b v f known begun finish stamp lower_end key change none
+pub surveys_marked : SurveysMarked
+surveys_marked R now m tell good stamp lower_end key change w b v f begun finish none =
+    let known = answers R now w b v f begun finish in
+    marked R now m tell good w b v f known begun finish stamp lower_end key change none

@@ -2,17 +2,14 @@
 use Rattle.std.proofs.Common.{◌≡◌, ℕ, suc, Bool, true, false, cond, not, ◌&&◌, eqb, ltb, None, sym, refl, ap, ◌∙◌}
 use Rattle.layout.specs.declared.names.Cell.TheVariants as cell
 use Rattle.layout.specs.declared.sizes.Sizes.{Sizes}
-use Rattle.stepper.specs.States.{State}
-use Rattle.stepper.specs.Turns.{cell_at}
-use Rattle.laws.specs.Sound.{RunsSound, RunsKeepLaws}
-use Rattle.laws.specs.Stamps.{RunsStamp}
+use Rattle.machine.specs.States.{State}
+use Rattle.machine.specs.Turns.{cell_at}
 use Rattle.questions.specs.Pages.{weight_of}
 use Rattle.runs.specs.Seen.{page_graph}
-use Rattle.runs.specs.Reasons.{RunsKnow}
 use Rattle.runs.proofs.Steps.{sizes_at}
 use Rattle.walks.specs.Pages.{page_of, graph_of}
 use Rattle.walks.specs.Turns.{goes}
-use Rattle.bounds.specs.Bounds.{is_turn_of}
+use Rattle.bounds.specs.Bounds.{is_turn_of_worker}
 use Rattle.bounds.proofs.Counts.{own_turn}
 use Rattle.bounds.proofs.SurveySteps.{Step, own, rests, step, page_next}
 use Rattle.surveys.specs.Pages.{PagesSeen}
@@ -35,12 +32,12 @@ same_graph s w = λ x. record { has = λ i. has_path i x; edge = λ i j. edge_pa
     edge_path : (i j : ℕ) → (page_graph s w).edge i j ≡ (graph_of s.sizes.keys (page_of s w)).edge i j
     edge_path i j = pair_test (ltb i s.sizes.keys && ltb j s.sizes.keys) (cell_at s.sizes s.cells (cell.PagePair w i j))
 
-pub pages_seen : RunsSound → RunsKeepLaws → RunsStamp → RunsKnow → PagesSeen
-pages_seen sound keep stamps know R w began till v a inside by opened asked answered = by_step (step sound keep stamps know R w began v inside till by till opened)
+pub pages_seen : PagesSeen
+pages_seen R w began till v a inside by opened asked answered = by_step (step R w began v inside till by till opened)
   where
-    by_step : Step sound keep stamps know R w began v inside till by till opened → page_graph (R.state (suc till)) w ≡ graph_of R.sizes.keys (goes (R.state till) w).page
-    by_step (rests n e) = absurd (let x = sym (own_turn w) ∙ ap (is_turn_of w) (sym asked) ∙ n in cc)
+    by_step : Step R w began v inside till by till opened → page_graph (R.state (suc till)) w ≡ graph_of R.sizes.keys (goes (R.state till) w).page
+    by_step (rests n e) = absurd (let x = sym (own_turn w) ∙ ap (is_turn_of_worker w) (sym asked) ∙ n in cc)
     by_step (own q n e) =
         same_graph (R.state (suc till)) w
-        ∙ ap (λ (z : Sizes). graph_of z.keys (page_of (R.state (suc till)) w)) (sizes_at sound keep stamps R (suc till))
-        ∙ ap (graph_of R.sizes.keys) (page_next sound keep stamps know R w began v inside till by till opened q n e)
+        ∙ ap (λ (z : Sizes). graph_of z.keys (page_of (R.state (suc till)) w)) (sizes_at R (suc till))
+        ∙ ap (graph_of R.sizes.keys) (page_next R w began v inside till by till opened q n e)

@@ -4,7 +4,6 @@ use Rattle.std.proofs.lemmas.Bool.{cases_eq, cases_lt}
 use Rattle.codes.specs.declared.answer.Answer.{Answer}
 use Rattle.codes.specs.declared.refusal.Refusal.{Refusal}
 use Rattle.layout.specs.declared.sizes.Sizes.{Sizes}
-use Rattle.layout.specs.declared.names.Kind.{Kind}
 use Rattle.layout.specs.declared.names.Field.TheVariants.{Ins, Del}
 use Rattle.layout.specs.declared.names.Cell.{Cell}
 use Rattle.layout.specs.declared.names.Cell.TheVariants as cell
@@ -28,52 +27,51 @@ use Rattle.places.specs.Nexts.{settled, link_done, next_of}
 use Rattle.places.specs.Private.{link_kind}
 use Rattle.places.specs.Touches.{change_head, change_kind, settled_field, link_touch, touch_of}
 use Rattle.books.specs.declared.walked.Entry.TheVariants as entry
-use Rattle.stepper.specs.declared.worker.Worker.{Worker}
-use Rattle.stepper.specs.declared.request.Reply.TheVariants as reply
-use Rattle.stepper.specs.States.{State}
-use Rattle.stepper.specs.Effects.{filled, cells_after, entered}
-use Rattle.stepper.specs.Turns.{worker_at, cell_at, spare_for, hand_at, touch_at, next_at, turned}
-use Rattle.stepper.specs.Workers.{followed}
-use Rattle.stepper.specs.Requests.{turn_refused, unless_refused, answered_or}
+use Rattle.machine.specs.declared.worker.Worker.{Worker}
+use Rattle.machine.specs.declared.request.Reply.TheVariants as reply
+use Rattle.machine.specs.States.{State}
+use Rattle.machine.specs.Effects.{filled, cells_after, entered}
+use Rattle.machine.specs.Turns.{worker_at, cell_at, spare_for, hand_at, touch_at, next_at, turned}
+use Rattle.machine.specs.Workers.{followed}
+use Rattle.machine.specs.Requests.{turn_refused, unless_refused, answered_or}
 use Rattle.laws.specs.Fits.{FitChange, FitPlace}
-use Rattle.laws.specs.Changes.{OnPage, OfRow, next_own, number_in}
-use Rattle.laws.specs.Sound.{Sound, RunsSound, RunsKeepLaws}
-use Rattle.laws.specs.Stamps.{RunsStamp}
+use Rattle.laws.specs.Changes.{OnPage, next_own, number_in}
+use Rattle.laws.specs.Sound.{Sound}
 use Rattle.laws.proofs.Heads.{change_named}
 use Rattle.laws.proofs.Puts.{Enough, swap_at, raise_at}
 use Rattle.laws.proofs.Fills.{fill_at, enough_filled}
 use Rattle.laws.proofs.Owned.{linked_row, next_own_lem}
 use Rattle.laws.proofs.Touched.{settled_field_lem}
 use Rattle.questions.specs.Graph.{Graph}
-use Rattle.order.specs.Seen.{Sight.finishes}
-use Rattle.runs.specs.Runs.{Run}
+use Rattle.order.specs.Seen.{CallSight.finishes}
+use Rattle.runs.specs.Runs.{RunInTime}
 use Rattle.runs.specs.Views.{place_at}
 use Rattle.runs.specs.Purposes.{InCall}
 use Rattle.runs.specs.Seen.{page_graph, seen, open_at}
-use Rattle.runs.specs.Reasons.{BegunBy, WorkerKnows, WorkerKnows.free, WorkerKnows.busy, RunsKnow}
-use Rattle.runs.specs.Sights.{AnswerAt, RunsSeen}
-use Rattle.runs.proofs.Steps.{StepCase, StepCase.keeps, StepCase.begins, StepCase.turns, turn_taken, sound_at, sizes_at, case_at, laws_at}
+use Rattle.runs.specs.Reasons.{BegunBy, WorkerKnows, WorkerKnows.free, WorkerKnows.busy}
+use Rattle.runs.specs.Sights.{AnswerAt}
+use Rattle.laws.proofs.Taken.{turn_taken}
+use Rattle.runs.proofs.Steps.{StepCase, StepCase.rests, StepCase.begins, StepCase.turns, sound_at, sizes_at, case_at, laws_at}
 use Rattle.runs.proofs.Opens.{answer_closes}
 use Rattle.walks.specs.Pages.{page_of, graph_of}
 use Rattle.walks.proofs.Written.{page_stays}
-use Rattle.bounds.proofs.OpenBack.{open_back}
-use Rattle.surveys.specs.Pages.{BeginsNone, PagesStay}
+use Rattle.walks.proofs.RunSurveys.{page_same}
+use Rattle.walks.proofs.OpenBack.{open_back}
+use Rattle.surveys.specs.Pages.{BeginsNone, PageGraphsStay}
 use Rattle.surveys.proofs.PagesSeen.{same_graph}
-
-row_no_page : (k : Kind) (r v : ℕ) (c : Cell) → OfRow k r c → OnPage v c → ⊥
-row_no_page k r v (cell.PageKey u i) a b = a
-row_no_page k r v (cell.PagePair u i j) a b = a
-row_no_page k r v c a b = b
+use Rattle.runs.proofs.Knows.{runs_know as know}
+use Rattle.runs.proofs.Sights.{runs_seen as sees}
+use Rattle.laws.proofs.Stays.{row_no_page}
 
 -- a place of no snapshot or reach
-abbrev NoWalk : Place → Type 0
+abbrev pub NoWalk : Place → Type 0
 NoWalk (place.Raise v) = ⊥
 NoWalk (place.WalkHead k) = ⊥
 NoWalk (place.WalkOlder k r) = ⊥
 NoWalk (place.Settle st (purpose.Walk f k r)) = ⊥
 NoWalk p = Unit {0}
 
-no_walk : (p : Place) → ((v : Survey) → ¬ (InCall p (call.Survey v))) → NoWalk p
+pub no_walk : (p : Place) → ((v : Survey) → ¬ (InCall p (call.Survey v))) → NoWalk p
 no_walk (place.Raise v) n = n v refl
 no_walk (place.WalkHead k) n = n k.survey refl
 no_walk (place.WalkOlder k r) n = n k.survey refl
@@ -82,14 +80,14 @@ no_walk (place.Settle st p) n = tt
 no_walk p n = tt
 
 -- what follows writes nothing into a page
-abbrev WritesNone : Next → Type 0
-WritesNone (next.Out o) = Unit {0}
+abbrev pub WritesNone : Next → Type 0
+WritesNone (next.Moved o) = Unit {0}
 WritesNone (next.Linked d r) = Unit {0}
 WritesNone (next.Raised v t) = ⊥
 WritesNone (next.Walked k r) = ⊥
 
 entry_none : (n : ℕ) (v : Worker) (h : Hand) (x : Next) → WritesNone x → (followed n v h x).entry ≡ entry.Nothing
-entry_none n v h (next.Out o) z = refl
+entry_none n v h (next.Moved o) z = refl
 entry_none n v h (next.Linked d r) z = refl
 entry_none n v h (next.Raised s t) z = absurd z
 entry_none n v h (next.Walked k r) z = absurd z
@@ -99,10 +97,10 @@ settled_none st (purpose.Look Ins l r) n h m = tt
 settled_none st (purpose.Look Del l r) n h m = tt
 settled_none st (purpose.Own f c r) n h m = tt
 settled_none st (purpose.LostDel c r) n h m = tt
-settled_none st (purpose.WonIns i r) n h m = tt
-settled_none st (purpose.BindAgain o b) n h m = tt
-settled_none st (purpose.Again Source o b f) n h m = tt
-settled_none st (purpose.Again Target o b f) n h m = tt
+settled_none st (purpose.WinnerIns i r) n h m = tt
+settled_none st (purpose.SourceAgain o b) n h m = tt
+settled_none st (purpose.CheckAgain Source o b f) n h m = tt
+settled_none st (purpose.CheckAgain Target o b f) n h m = tt
 settled_none st (purpose.Compare Source b f e x) n h m = tt
 settled_none st (purpose.Compare Target b f e x) n h m = tt
 settled_none st (purpose.Walk f k r) n h m = absurd n
@@ -111,13 +109,13 @@ link_none : (c : Change) (o : Option ℕ) (d : Bool) → WritesNone (link_done c
 link_none c None d = tt
 link_none c (Some r) d = search rules
 
-next_none : (p : Place) (h : Hand) (g : Option ℕ) → NoWalk p → WritesNone (next_of p h g)
+pub next_none : (p : Place) (h : Hand) (g : Option ℕ) → NoWalk p → WritesNone (next_of p h g)
 next_none place.Idle h g n = tt
 next_none (place.Head l) h g n = search rules
 next_none (place.Settle stage.First q) h g n = search (rules, settled_none)
 next_none (place.Settle stage.Clock q) h g n = tt
 next_none (place.Settle (stage.Swap m) q) h g n = tt
-next_none (place.Settle stage.Again q) h g n = settled_none stage.Again q n h _
+next_none (place.Settle stage.Reread q) h g n = settled_none stage.Reread q n h _
 next_none (place.Link c o) h g n = link_none c h.spare _
 next_none (place.End c r) h g n = tt
 next_none (place.LostHead i) h g n = tt
@@ -155,7 +153,7 @@ module _ (s : State) (w : ℕ) (c : Cell) (v : ℕ) (o : OnPage v c) (m : Named 
       (entry_none s.sizes.keys (worker_at s w) (hand_at s w) (next_at s w) (next_none (worker_at s w).place (hand_at s w) _ n))
       ∙ touched_same (worker_at s w).place f
 
-same_place : (p : Place) (c d : Call) → InCall p c → InCall p d → c ≡ d
+pub same_place : (p : Place) (c d : Call) → InCall p c → InCall p d → c ≡ d
 same_place place.Idle c d a b = absurd a
 same_place (place.Head x) c d a b = sym a ∙ b
 same_place (place.Settle st x) c d a b = sym a ∙ b
@@ -170,12 +168,12 @@ taken : (r : Option Refusal) (x : Option Answer) (a : Answer) → answered_or (u
 taken None x a e = refl
 taken (Some y) x a e = absurd cc
 
-module _ (sound : RunsSound) (keep : RunsKeepLaws) (stamps : RunsStamp) (know : RunsKnow) (sees : RunsSeen) (R : Run) (w f : ℕ) (a : Answer) (g : Graph) (finished : seen R f ≡ finishes w a g) where
-  at : AnswerAt R f w a g
+module _ (R : RunInTime) (w f : ℕ) (a : Answer) (g : Graph) (finished : seen R f ≡ finishes w a g) where
+  pub at : AnswerAt R f w a g
   at = (sees R).finished f w a g finished
 
-  inside : w < R.sizes.workers
-  inside = subst (λ (z : Sizes). w < z.workers) (sizes_at sound keep stamps R f) (turn_taken (R.state f) w (taken (turn_refused (R.state f) w) _ a at.reply))
+  pub inside : w < R.sizes.workers
+  inside = subst (λ (z : Sizes). w < z.workers) (sizes_at R f) (turn_taken (R.state f) w (taken (turn_refused (R.state f) w) _ a at.reply))
 
   closed : open_at R (suc f) w ≡ None
   closed = answer_closes R f w at.asked a at.reply
@@ -186,7 +184,7 @@ module _ (sound : RunsSound) (keep : RunsKeepLaws) (stamps : RunsStamp) (know : 
 
   module _ (k : ℕ) (l : suc f ≤ k) (none : BeginsNone R w (suc f) k) where
     -- so it is no snapshot or reach
-    not_survey : (v : Survey) → ¬ (InCall (place_at R k w) (call.Survey v))
+    pub not_survey : (v : Survey) → ¬ (InCall (place_at R k w) (call.Survey v))
     not_survey v i = by_worker ((know R).workers k w inside)
       where
         by_worker : WorkerKnows R k w → ⊥
@@ -196,13 +194,13 @@ module _ (sound : RunsSound) (keep : RunsKeepLaws) (stamps : RunsStamp) (know : 
             none b v (begun_later k b l by.before o) by.before ((sees R).begun k w b (call.Survey v) (subst (BegunBy R k w b) q by))
 
     good : Sound (R.state k)
-    good = sound_at sound keep stamps R k
+    good = sound_at R k
 
     there : w < (R.state k).sizes.workers
-    there = subst (λ (z : Sizes). w < z.workers) (sym (sizes_at sound keep stamps R k)) inside
+    there = subst (λ (z : Sizes). w < z.workers) (sym (sizes_at R k)) inside
 
-    page_next : page_of (R.state (suc k)) w ≡ page_of (R.state k) w
-    page_next = by_case (case_at sound keep stamps R k)
+    pub page_next : page_of (R.state (suc k)) w ≡ page_of (R.state k) w
+    page_next = by_case (case_at R k)
       where
         s : State
         s = R.state k
@@ -216,12 +214,12 @@ module _ (sound : RunsSound) (keep : RunsKeepLaws) (stamps : RunsStamp) (know : 
             (λ i j u x. turned_same s w (cell.PagePair w i j) w refl (there, u, x) good.cells p n)
 
         by_case : StepCase s (R.request k) (R.state (suc k)) → page_of (R.state (suc k)) w ≡ page_of s w
-        by_case (keeps y q e) = ap (λ t. page_of t w) e
+        by_case (rests q e) = page_same s (R.state (suc k)) e w
         by_case (begins b d q t q' e) = ap (λ t. page_of t w) e
         by_case (turns u q n q' e) = ⊎_elim
             (λ (x : u ≡ w). ap (λ t. page_of t w) (e ∙ ap (turned s) x) ∙ own_page)
             (λ (x : ¬ (u ≡ w)). ap (λ t. page_of t w) e ∙
-            (let law = laws_at sound keep stamps R k u q n e in
+            (let law = laws_at R k u q n e in
             page_stays s.sizes w there s.cells (turned s u).cells
             (λ i h. law.pages w (cell.PageKey w i) (there, h) refl (λ y. x (sym y)))
             (λ i j h y. law.pages w (cell.PagePair w i j) (there, h, y) refl (λ z. x (sym z)))))
@@ -236,7 +234,7 @@ module _ (sound : RunsSound) (keep : RunsKeepLaws) (stamps : RunsStamp) (know : 
   graph_same : (j k : ℕ) → page_of (R.state j) w ≡ page_of (R.state k) w → page_graph (R.state j) w ≡ page_graph (R.state k) w
   graph_same j k e =
       same_graph (R.state j) w
-      ∙ ap₂ (λ (z : Sizes) p. graph_of z.keys p) (sizes_at sound keep stamps R j ∙ sym (sizes_at sound keep stamps R k)) e
+      ∙ ap₂ (λ (z : Sizes) p. graph_of z.keys p) (sizes_at R j ∙ sym (sizes_at R k)) e
       ∙ sym (same_graph (R.state k) w)
 
   stays : (k : ℕ) → f < k → BeginsNone R w (suc f) k → page_graph (R.state k) w ≡ g
@@ -245,5 +243,5 @@ module _ (sound : RunsSound) (keep : RunsKeepLaws) (stamps : RunsStamp) (know : 
       let p : page_of (R.state k) w ≡ page_of (R.state (suc f)) w = subst (λ j. page_of (R.state j) w ≡ page_of (R.state (suc f)) w) e (page_later (k - suc f) (subst (BeginsNone R w (suc f)) (sym e) none)) in
       graph_same k (suc f) p ∙ sym at.page
 
-pub pages_stay : RunsSound → RunsKeepLaws → RunsStamp → RunsKnow → RunsSeen → PagesStay
-pages_stay sound keep stamps know sees R w f k a g finished l none = stays sound keep stamps know sees R w f a g finished k l none
+pub pages_stay : PageGraphsStay
+pages_stay R w f k a g finished l none = stays R w f a g finished k l none

@@ -1,16 +1,16 @@
 -- A finish that a past tells, with the worker that had the call open.
 use Rattle.std.proofs.Common.{◌≡◌, ℕ, zero, suc, ◌<◌, Bool, true, false, cond, Some, None, Option, refl, sym, ◌∙◌, subst, arith}
 use Rattle.order.specs.Past.{Finish}
-use Rattle.order.specs.Seen.{Sight, Sight.begins, Sight.finishes, Sight.neither, open_call, is_open, finish_after, finish_by}
-use Rattle.bounds.proofs.Counts.{open_true}
+use Rattle.order.specs.Seen.{CallSight, CallSight.begins, CallSight.finishes, CallSight.neither, open_call, is_open, finish_after, finish_by}
+use Rattle.order.proofs.Seen.{is_open_true}
 
-pub record FinishOf (seen : ℕ → Sight) (k b : ℕ) (f : Finish) : Type 0 where
+pub record FinishOf (seen : ℕ → CallSight) (k b : ℕ) (f : Finish) : Type 0 where
   pub worker : ℕ
   pub before : f.time < k
   pub finished : seen f.time ≡ finishes worker f.answer f.page
   pub whose : open_call seen f.time worker ≡ Some b
 
-module _ (seen : ℕ → Sight) (b : ℕ) where
+module _ (seen : ℕ → CallSight) (b : ℕ) where
   finish_next : (k : ℕ) → finish_by seen (suc k) b ≡ finish_after (open_call seen k) (seen k) k b (finish_by seen k b)
   unfolding finish_by
   finish_next k = refl
@@ -29,7 +29,7 @@ module _ (seen : ℕ → Sight) (b : ℕ) where
       later : FinishOf seen k b f → FinishOf seen (suc k) b f
       later x = record { worker = x.worker; before = omega (arith, x.before); finished = x.finished; whose = x.whose }
 
-      by_sight : (finish_by seen k b ≡ Some f → FinishOf seen k b f) → (x : Sight) → seen k ≡ x → finish_after (open_call seen k) x k b (finish_by seen k b) ≡ Some f → FinishOf seen (suc k) b f
+      by_sight : (finish_by seen k b ≡ Some f → FinishOf seen k b f) → (x : CallSight) → seen k ≡ x → finish_after (open_call seen k) x k b (finish_by seen k b) ≡ Some f → FinishOf seen (suc k) b f
       by_sight before (begins w c) s q = later (before q)
       by_sight before neither s q = later (before q)
       by_sight before (finishes w a p) s q = by_test (is_open (open_call seen k w) b) refl q
@@ -37,4 +37,4 @@ module _ (seen : ℕ → Sight) (b : ℕ) where
           by_test : (t : Bool) → is_open (open_call seen k w) b ≡ t → cond t (Some (record { time = k; answer = a; page = p })) (finish_by seen k b) ≡ Some f → FinishOf seen (suc k) b f
           by_test false u z = later (before z)
           by_test true u z = subst (FinishOf seen (suc k) b) (same_finish (record { time = k; answer = a; page = p }) f z)
-              (record { worker = w; before = omega arith; finished = s; whose = open_true (open_call seen k w) b u })
+              (record { worker = w; before = omega arith; finished = s; whose = is_open_true (open_call seen k w) b u })

@@ -1,3 +1,4 @@
 pub mod Raises
 pub mod Pages
+pub mod Records
 pub mod Marked

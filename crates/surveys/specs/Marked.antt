@@ -5,23 +5,23 @@ use Rattle.places.specs.declared.place.Survey.{Survey}
 use Rattle.places.specs.declared.place.Call.TheVariants as call
 use Rattle.order.specs.Past.{Finish, Past}
 use Rattle.order.specs.Keys.{Key}
-use Rattle.order.specs.Marks.{Marks, Sound}
+use Rattle.order.specs.Marks.{Marks, MarksSound}
 use Rattle.order.specs.Raises.{raise_key}
 use Rattle.order.specs.Finds.{RowChange, no_change}
-use Rattle.order.specs.Seen.{Sight.begins, finish_by, past_of}
+use Rattle.order.specs.Seen.{CallSight.begins, finish_by, past_of}
 use Rattle.order.specs.Marked.{Marking, CallMarked}
-use Rattle.runs.specs.Runs.{Run}
+use Rattle.runs.specs.Runs.{RunInTime}
 use Rattle.runs.specs.Views.{clock_at}
 use Rattle.runs.specs.Seen.{seen}
 use Rattle.runs.specs.Known.{TurnOf}
-use Rattle.runs.specs.Marking.{time_bound, MarksTell}
+use Rattle.runs.specs.Marking.{time_bound, MarksTellRun}
 use Rattle.runs.specs.VertexFinds.{turn_key}
-use Rattle.surveys.specs.Raises.{raising_turn, raise_by}
+use Rattle.surveys.specs.Raises.{raising_turn, raise_before}
 
-module _ (R : Run) (now : ℕ) where
+module _ (R : RunInTime) (now : ℕ) where
   -- the past of a run up to now, with the numbers from which its calls raised the clock
   abbrev pub run_past : (ℕ → Option ℕ) → (ℕ → Bool) → Past
-  run_past stamp lower_end = past_of (seen R) now stamp (raise_by R now) lower_end
+  run_past stamp lower_end = past_of (seen R) now stamp (raise_before R now) lower_end
 
   -- what a run gives besides its past
   abbrev pub run_marking : Marks → (ℕ → Option Key) → (ℕ → RowChange) → Marking
@@ -44,10 +44,10 @@ module _ (R : Run) (now : ℕ) where
     pub part : (survey_key b f.time).part ≤ time_bound now
     -- if it answers 41 that is the turn that answers, else the call raised the clock
     pub spent : f.answer ≡ ClockSpent → survey_key b f.time ≡ turn_key R now f.time
-    pub raises : f.answer ≢ ClockSpent → (t : ℕ) × (raise_by R now b ≡ Some t)
+    pub raises : f.answer ≢ ClockSpent → (t : ℕ) × (raise_before R now b ≡ Some t)
 
 -- whatever marks tell the run, and whatever keys and changes the other calls have
 abbrev pub SurveysMarked : Type 0
-SurveysMarked = (R : Run) (now : ℕ) (m : Marks) → MarksTell R now m → Sound (time_bound now) (clock_at R now) m →
+SurveysMarked = (R : RunInTime) (now : ℕ) (m : Marks) → MarksTellRun R now m → MarksSound (time_bound now) (clock_at R now) m →
     (stamp : ℕ → Option ℕ) (lower_end : ℕ → Bool) (key : ℕ → Option Key) (change : ℕ → RowChange) (w b : ℕ) (v : Survey) (f : Finish) →
     seen R b ≡ begins w (call.Survey v) → finish_by (seen R) now b ≡ Some f → change b ≡ no_change → SurveyMarked R now m stamp lower_end key change b f

@@ -1,33 +1,19 @@
 -- A call that adds an edge names two keys that differ, and a weight that is not 0.
-use Rattle.std.proofs.Common.{◌≡◌, ℕ, ◌<◌, ◌≤◌, ◌≢◌, Bool, true, false, cond, ltb, not, ◌&&◌, ◌==◌, nat_lt, subst, Ok, Err, Result, refl, ⊎_elim, arith}
+use Rattle.std.proofs.Common.{◌≡◌, ℕ, ◌<◌, ◌≤◌, ◌≢◌, Bool, true, false, cond, not, ◌&&◌, ◌==◌, nat_lt, subst, Ok, ⊎_elim, arith}
 use Rattle.std.proofs.lemmas.Bool.{le-leb, lt-leb, leb-true, eq-eqb, and_parts, cases_lt}
-use Rattle.codes.specs.declared.refusal.Refusal.{Refusal}
-use Rattle.codes.specs.declared.refusal.Refusal.TheVariants.{NoSuchWorker, WorkerBusy, NoSuchCall, KeyOutside, WeightOutside}
+use Rattle.codes.specs.declared.refusal.Refusal.TheVariants.{NoSuchCall, KeyOutside, WeightOutside}
 use Rattle.layout.specs.Limits.{between}
 use Rattle.places.specs.declared.call.Begin.{Begin}
 use Rattle.places.specs.declared.place.Op.{Op}
 use Rattle.places.specs.declared.place.Op.TheVariants.{Add}
 use Rattle.places.specs.declared.place.Survey.TheVariants.{Snapshot, Reach}
 use Rattle.places.specs.declared.place.Pair.{Pair}
-use Rattle.places.specs.declared.place.Call.{Call}
 use Rattle.places.specs.declared.place.Call.TheVariants as call
 use Rattle.places.specs.Calls.{op_of, edge_keys_fit, edge_weight_fits, edge_named, keys_fit, weight_fits, call_named, call_of}
-use Rattle.stepper.specs.declared.worker.PageState.{PageState}
-use Rattle.stepper.specs.declared.worker.PageState.TheVariants as page
-use Rattle.stepper.specs.States.{State}
-use Rattle.stepper.specs.Turns.{worker_at}
-use Rattle.stepper.specs.Requests.{is_idle, page_free, begun_as}
-
-ok_if : {X E : Type 0} (t : Bool) (r : Result X E) (e : E) (x : X) → cond t r (Err e) ≡ Ok x → (t ≡ true) × (r ≡ Ok x)
-ok_if true r e x h = (refl, h)
-ok_if false r e x h = absurd cc
-
-free_same : (p : PageState) (r : Result Call Refusal) (c : Call) → page_free p r ≡ Ok c → r ≡ Ok c
-free_same page.Out (Ok (call.Survey v)) c e = absurd cc
-free_same p r c e = e
-
-one_call : (x y : Call) → ◌≡◌ {A = Result Call Refusal} (Ok x) (Ok y) → x ≡ y
-one_call x y e = cc
+use Rattle.machine.specs.States.{State}
+use Rattle.machine.specs.Requests.{call_to_begin}
+use Rattle.laws.proofs.Taken.{ok_if, begin_taken}
+use Rattle.runs.proofs.Sights.{one_call_of}
 
 one_pair : {o u : Op} {p q : Pair} → call.Edge o p ≡ call.Edge u q → (o ≡ u) × (p ≡ q)
 one_pair e = (cc, cc)
@@ -76,10 +62,7 @@ module _ (n : ℕ) (b : Begin) (p : Pair) where
       let known = ok_if (between 1 b.call 8) _ NoSuchCall (call.Edge Add p) e in
       let keys = ok_if (keys_fit n b) _ KeyOutside (call.Edge Add p) known.1 in
       let weight = ok_if (weight_fits b) _ WeightOutside (call.Edge Add p) keys.1 in
-      named_adds keys.0 weight.0 (one_call (call_named b) (call.Edge Add p) weight.1)
+      named_adds keys.0 weight.0 (one_call_of (call_named b) (call.Edge Add p) weight.1)
 
-pub begun_adds : (s : State) (b : Begin) (p : Pair) → begun_as s b ≡ Ok (call.Edge Add p) → AddsEdge p
-begun_adds s b p e =
-    let there = ok_if (ltb b.worker s.sizes.workers) _ NoSuchWorker (call.Edge Add p) e in
-    let free = ok_if (is_idle (worker_at s b.worker).place) _ WorkerBusy (call.Edge Add p) there.1 in
-    called_adds s.sizes.keys b p (free_same (worker_at s b.worker).page _ (call.Edge Add p) free.1)
+pub begun_adds : (s : State) (b : Begin) (p : Pair) → call_to_begin s b ≡ Ok (call.Edge Add p) → AddsEdge p
+begun_adds s b p e = called_adds s.sizes.keys b p (begin_taken s b (call.Edge Add p) e).call

@@ -9,14 +9,14 @@ use Rattle.places.specs.declared.place.Survey.TheVariants.{Snapshot, Reach}
 use Rattle.places.specs.declared.place.Job.{Job}
 use Rattle.places.specs.declared.place.Job.TheVariants as job
 use Rattle.places.specs.declared.place.Place.TheVariants.{WalkHead}
-use Rattle.places.specs.Outs.{Out}
+use Rattle.places.specs.Flows.{Flow}
 use Rattle.books.specs.declared.book.Book.{Book}
-use Rattle.books.specs.Serving.{leg_at, leg_number, go_on as goes_on, serve_from, survey_done}
+use Rattle.books.specs.Serving.{pair_numbered, pair_number, go_on as goes_on, serve_from, survey_done}
 use Rattle.walks.specs.Courses.{Course, Laws}
 use Rattle.walks.specs.Pages.{Page}
 use Rattle.walks.specs.Budgets.{sum_below, links_over, rows_in, limit}
 use Rattle.walks.proofs.Drafts.{Draft, draft_of, put_at, at_puts, put_here, put_there, walk_in, join_in}
-use Rattle.walks.proofs.Serves.{Opened, none_open, first, opened, leg_number_is}
+use Rattle.walks.proofs.Serves.{Opened, none_open, first, opened, pair_number_is}
 use Rattle.walks.proofs.Fills.{in_queue}
 use Rattle.walks.proofs.Sums.{sum_le, sum_up, sum_at, sum_flag, sum_eights, sum_others, sum_scale, sum_pairs}
 use Rattle.walks.proofs.Paces.{links_mono}
@@ -57,13 +57,13 @@ module _ (c : Course) (n : ℕ) where
   abbrev pub base : ℕ → Draft → Job → ℕ
   base k d (job.Key i) = 1 + sum_below i (key_cost k)
   base k d (job.Start i) = 1
-  base k d (job.Pair l) = serving k d (leg_number n l)
-  base k d (job.Target l e) = serving k d (leg_number n l + 1)
+  base k d (job.Pair l) = serving k d (pair_number n l)
+  base k d (job.Target l e) = serving k d (pair_number n l + 1)
 
   -- on to a walk, or an answer, after m turns
-  pub data SpentOut (k m : ℕ) (v : Survey) (d : Draft) : Out → Type 0 where
-    before_walk : (j : Job) → Extra n v d j → m ≤ base k d j → SpentOut k m v d (Continue (WalkHead (record { survey = v; job = j })))
-    before_answer : (a : Answer) → m ≤ total k → SpentOut k m v d (Break a)
+  pub data SpentFlow (k m : ℕ) (v : Survey) (d : Draft) : Flow → Type 0 where
+    before_walk : (j : Job) → Extra n v d j → m ≤ base k d j → SpentFlow k m v d (Continue (WalkHead (record { survey = v; job = j })))
+    before_answer : (a : Answer) → m ≤ total k → SpentFlow k m v d (Break a)
 
 flag_le : (q : Bool) (u v : ℕ) → u ≤ v → cond q u 0 ≤ cond q v 0
 flag_le true u v l = l
@@ -97,8 +97,8 @@ module _ (c : Course) (n : ℕ) (law : Laws c n) (some_key : 0 < n) where
   pub base_mono : (k l : ℕ) (d : Draft) (j : Job) → k ≤ l → base c n k d j ≤ base c n l d j
   base_mono k l d (job.Key i) u = omega (arith, sum_le i (key_cost c n k) (key_cost c n l) (λ y a. key_mono k l y u))
   base_mono k l d (job.Start i) u = omega arith
-  base_mono k l d (job.Pair g) u = serving_mono k l d (leg_number n g) u
-  base_mono k l d (job.Target g e) u = serving_mono k l d (leg_number n g + 1) u
+  base_mono k l d (job.Pair g) u = serving_mono k l d (pair_number n g) u
+  base_mono k l d (job.Target g e) u = serving_mono k l d (pair_number n g + 1) u
 
   pub rows_mono : (k l : ℕ) → k ≤ l → rows_in c n k ≤ rows_in c n l
   unfolding rows_in
@@ -153,14 +153,14 @@ module _ (c : Course) (n : ℕ) (law : Laws c n) (some_key : 0 < n) where
 
   -- on from pair number x
   pub serve_spent : (k m : ℕ) (v : Survey) (b : Book) (p : Page) (x : ℕ) → Once n v (draft_of b p) → x ≤ n * b.len → m ≤ serving c n k (draft_of b p) x →
-      SpentOut c n k m v (draft_of b p) (serve_from b v n x)
+      SpentFlow c n k m v (draft_of b p) (serve_from b v n x)
   serve_spent k m v b p x o l u = by_first _ (opened b v n x l)
     where
-      by_first : (a : Option Job) → Opened b v n x a → SpentOut c n k m v (draft_of b p) (goes_on v a)
+      by_first : (a : Option Job) → Opened b v n x a → SpentFlow c n k m v (draft_of b p) (goes_on v a)
       by_first a (none_open f) = before_answer (survey_done v) (omega (arith, serving_total k v (draft_of b p) x l o))
       by_first a (first y q w f g) =
-          before_walk (job.Pair (leg_at b n y)) o
-          (rw (leg_number_is b v n y) (omega (arith, sum_up x y (λ y. pair_cost c n k ((draft_of b p).queue (y / n)) (y % n)) q)))
+          before_walk (job.Pair (pair_numbered b n y)) o
+          (rw (pair_number_is b v n y) (omega (arith, sum_up x y (λ y. pair_cost c n k ((draft_of b p).queue (y / n)) (y % n)) q)))
 
   -- one more key has had its walk
   pub more_key : (k : ℕ) (d : Draft) (j r x : ℕ) → j < n → d.seen j ≡ false → serving c n k d x + key_cost c n k j ≤ serving c n k (walk_in d j r) x

@@ -3,21 +3,21 @@ use Rattle.std.proofs.Common.{◌≡◌, ℕ, zero, suc, ◌+◌, ◌<◌, true,
 use Rattle.std.proofs.lemmas.Bool.{lt-ltb}
 use Rattle.std.proofs.lemmas.Bool.Decides.{nat_tests}
 use Rattle.layout.specs.declared.sizes.Sizes.{Sizes}
-use Rattle.layout.specs.declared.names.Kind.{Kind}
 use Rattle.layout.specs.declared.names.Cell.TheVariants as cell
-use Rattle.layout.specs.Layout.{index_of, page_start, page_size, IsRow}
+use Rattle.layout.specs.Layout.{index_of, page_start, page_size}
 use Rattle.layout.proofs.Regions.{index_lt}
 use Rattle.places.specs.declared.place.Stage.TheVariants as stage
 use Rattle.places.specs.declared.place.Place.{Place}
 use Rattle.places.specs.Marks.{pending}
 use Rattle.places.specs.Touches.{touch_of, job_kind}
 use Rattle.places.specs.Nexts.{next_of}
-use Rattle.stepper.specs.States.{State}
-use Rattle.stepper.specs.Turns.{worker_at, hand_of, turned}
-use Rattle.stepper.specs.Workers.{followed}
-use Rattle.stepper.specs.Effects.{got_of, cells_after, zeroed, entered}
+use Rattle.machine.specs.States.{State}
+use Rattle.machine.specs.Turns.{worker_at, hand_of, turned}
+use Rattle.machine.specs.Workers.{followed}
+use Rattle.machine.specs.Effects.{got_of, cells_after, zeroed, entered}
 use Rattle.cells.specs.Cells.{swapped}
-use Rattle.laws.specs.Fits.{Linked, InChain.at_head as top_row, InChain.below as lower_row, FitPlace, Fit}
+use Rattle.laws.specs.Fits.{FitPlace, Fit}
+use Rattle.laws.proofs.Owned.{linked_row}
 use Rattle.walks.specs.Memory.{Memory, memory_of}
 use Rattle.walks.specs.Walking.{Done}
 use Rattle.walks.specs.Surveys.{TurnDone}
@@ -34,11 +34,6 @@ page_after_clock z w = omega arith
 
 swapped_here : (cs : List ℕ) (i old new : ℕ) → i < length cs → get_or cs i 0 ≡ old → get_or (swapped cs i old new) i 0 ≡ new
 swapped_here cs i old new l e = (let q : eqb (get_or cs i 0) old ≡ true = grind (arith, nat_tests) in rw q (get_or-set_same cs i new 0 l))
-
--- a linked row is a row
-pub row_is : (s : State) (k : Kind) (r : ℕ) → Linked s k r → IsRow s.sizes k r
-row_is s k r (top_row h _ n e f l) = l
-row_is s k r (lower_row q _ x f l) = l
 
 -- the cells after a turn at place p
 abbrev cells_then : State → ℕ → Place → List ℕ
@@ -61,8 +56,8 @@ module _ (s : State) (w : ℕ) (fit : Fit s w) where
   effect_at p (at_field stage.First d k r) f = tt
   effect_at p (at_field stage.Clock d k r) f = tt
   effect_at p (at_field (stage.Swap x) d k r) f = λ e. swapped_here s.cells (index_of s.sizes (cell.Stamp (job_kind k.job) d r)) pending x
-      (omega (arith, fit.cells, index_lt s.sizes (cell.Stamp (job_kind k.job) d r) (row_is s (job_kind k.job) r f.1))) e
-  effect_at p (at_field stage.Again d k r) f = tt
+      (omega (arith, fit.cells, index_lt s.sizes (cell.Stamp (job_kind k.job) d r) (linked_row s (job_kind k.job) r f.1))) e
+  effect_at p (at_field stage.Reread d k r) f = tt
 
   pub effect : InSurvey (worker_at s w).place → TurnDone s.sizes.top (memory_of s) (memory_of (turned s w)) (surveyor_of s w)
   effect i = effect_at (worker_at s w).place i fit.place

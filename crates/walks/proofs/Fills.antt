@@ -16,7 +16,7 @@ module _ (c : Course) (n : ℕ) (some_key : 0 < n) (k : ℕ) where
   pub serving_pair : (v : Survey) (d : Draft) (x i j w : ℕ) → Serving c n k v d x → 0 < d.key i → Shown c d.t k i j w → Serving c n k v (pair_in d i j w) x
   serving_pair v d x i j w s z h = record {
     rows = s.rows;
-    joined = λ y a. let g = s.joined y a in record { small = g.small; seen = g.seen; row = g.row; place = g.place; within = g.within; queued = g.queued; reached = g.reached };
+    joined = λ y a. let g = s.joined y a in record { small = g.small; seen = g.seen; row = g.row; nth = g.nth; within = g.within; queued = g.queued; reached = g.reached };
     queued = s.queued;
     mode = same_mode v s.mode;
     cells = at_pair (λ i j w. (w ≡ 0) ⊎ ((0 < d.key i) × Shown c d.t k i j w)) d i j w (inr (z, h)) s.cells;
@@ -50,14 +50,14 @@ module _ (c : Course) (n : ℕ) (some_key : 0 < n) (k : ℕ) where
       rows = s.rows;
       joined =
           at_put (λ y v. 0 < v → Joined c n k (Reach i) (join_in d j) y) d.key j (d.row j)
-          (λ o. record { small = l; seen = e; row = put_here d.key j (d.row j); place = d.len; within = omega arith; queued = put_here d.queue d.len j; reached = w })
+          (λ o. record { small = l; seen = e; row = put_here d.key j (d.row j); nth = d.len; within = omega arith; queued = put_here d.queue d.len j; reached = w })
           (λ y q o. let g = s.joined y o in record {
             small = g.small;
             seen = g.seen;
             row = put_there d.key j (d.row j) y q ∙ g.row;
-            place = g.place;
+            nth = g.nth;
             within = omega (arith, g.within);
-            queued = old_place g.place g.within ∙ g.queued;
+            queued = old_place g.nth g.within ∙ g.queued;
             reached = g.reached;
           });
       queued = at_put (λ m q. m < d.len + 1 → q < n) d.queue d.len j (λ o. l) (λ m q o. s.queued m (omega arith));

@@ -1,5 +1,5 @@
 -- The states of a run up to now, as a course: the times at which it moves, and what heads and linked rows are.
-use Rattle.std.proofs.Common.{◌≡◌, ℕ, zero, suc, ◌<◌, ◌≤◌, ◌≢◌, ◌⊎◌, min, Bool, true, false, cond, ltb, ◌&&◌, sym, refl, ap, ◌∙◌, subst, inl, inr, ⊎_elim, arith}
+use Rattle.std.proofs.Common.{◌≡◌, ℕ, suc, ◌<◌, ◌≤◌, ◌≢◌, ◌⊎◌, min, Bool, true, false, cond, ltb, ◌&&◌, sym, refl, ap, ◌∙◌, subst, inl, inr, ⊎_elim, arith}
 use Rattle.std.proofs.lemmas.Bool.{ltb-true, lt-ltb, and_parts, cases_lt}
 use Rattle.layout.specs.declared.sizes.Sizes.{Sizes}
 use Rattle.layout.specs.declared.names.Kind.{Kind}
@@ -11,23 +11,17 @@ use Rattle.layout.specs.Layout.{Named}
 use Rattle.layout.specs.Rows.{no_row}
 use Rattle.places.specs.Touches.{head_kind}
 use Rattle.places.specs.declared.mark.Mark.TheVariants.{Stamp}
-use Rattle.stepper.specs.History.{Traces}
-use Rattle.laws.specs.Stamps.{StampLaws, RunsStamp}
-use Rattle.runs.specs.Runs.{Run, history_at}
+use Rattle.runs.specs.Runs.{RunInTime}
 use Rattle.runs.specs.Views.{head_at, LinkedAt}
-use Rattle.runs.specs.Steps.{HeadSteps, HeadSteps.stays, HeadSteps.moves, RunsStep}
-use Rattle.runs.specs.Times.{LinkedBy, RunsLast}
-use Rattle.runs.specs.Known.{Stamped as StampedIn}
+use Rattle.runs.specs.Steps.{HeadSteps, HeadSteps.stays, HeadSteps.moves}
+use Rattle.runs.specs.Times.{LinkStepAtHead}
+use Rattle.runs.specs.Known.{StampedAt}
 use Rattle.walks.specs.Memory.{mark_in, head_inside, memory_of}
-use Rattle.walks.specs.Courses.{Course, Stamped, Old}
-use Rattle.walks.specs.Steps.{Links, WasLinked}
+use Rattle.walks.specs.Courses.{Course, CourseStamped, Old}
+use Rattle.walks.specs.Steps.{CourseLinkStep, CourseStepLinked}
 use Rattle.walks.specs.Histories.{run_course}
-
--- the run's history leads from its start to its state
-pub traced : (R : Run) (k : ℕ) → Traces (R.state 0) (history_at R k) (R.state k)
-unfolding history_at
-traced R zero = refl
-traced R (suc k) = (R.state k, traced R k, refl, R.next k)
+use Rattle.runs.proofs.Steps.{sizes_at, runs_step as step}
+use Rattle.runs.proofs.Times.{runs_last as last}
 
 -- a head is one of the sizes, or outside
 pub inside_or : (z : Sizes) (h : Head) → (Named z (cell.Head h) × (head_inside z h ≡ true)) ⊎ (head_inside z h ≡ false)
@@ -46,21 +40,15 @@ pub inside : (z : Sizes) (h : Head) → Named z (cell.Head h) → head_inside z 
 inside z (head.Vertex i) n = lt-ltb i z.keys n
 inside z (head.Edge i j) n = rw (lt-ltb i z.keys n.0, lt-ltb j z.keys n.1) refl
 
-module _ (stamp : RunsStamp) (R : Run) where
-  pub stamps_at : (k : ℕ) → StampLaws (R.state 0) (history_at R k) (R.state k)
-  stamps_at k = stamp (R.state 0) R.clean (history_at R k) (R.state k) (traced R k)
-
-  pub sizes_at : (k : ℕ) → (R.state k).sizes ≡ R.sizes
-  sizes_at k = (stamps_at k).sizes ∙ R.start
-
+module _ (R : RunInTime) where
   -- a head of the sizes holds what its cell holds, a head outside no row
   pub head_named : (k : ℕ) (h : Head) → Named R.sizes (cell.Head h) → (memory_of (R.state k)).head h ≡ head_at R k h
-  head_named k h n = ap (λ z. cond (head_inside z h) (head_at R k h) no_row) (sizes_at k) ∙ ap (λ t. cond t (head_at R k h) no_row) (inside R.sizes h n)
+  head_named k h n = ap (λ z. cond (head_inside z h) (head_at R k h) no_row) (sizes_at R k) ∙ ap (λ t. cond t (head_at R k h) no_row) (inside R.sizes h n)
 
   pub head_outside : (k : ℕ) (h : Head) → head_inside R.sizes h ≡ false → (memory_of (R.state k)).head h ≡ no_row
-  head_outside k h e = ap (λ z. cond (head_inside z h) (head_at R k h) no_row) (sizes_at k) ∙ ap (λ t. cond t (head_at R k h) no_row) e
+  head_outside k h e = ap (λ z. cond (head_inside z h) (head_at R k h) no_row) (sizes_at R k) ∙ ap (λ t. cond t (head_at R k h) no_row) e
 
-  module _ (step : RunsStep) (last : RunsLast) (now : ℕ) where
+  module _ (now : ℕ) where
     abbrev c : Course
     c = run_course R now
 
@@ -78,14 +66,14 @@ module _ (stamp : RunsStamp) (R : Run) where
     pub record Comes (p : ℕ) (h : Head) (r : ℕ) : Type 0 where
       pub early : p < now
       pub named : Named R.sizes (cell.Head h)
-      pub by : LinkedBy R p h r
+      pub by : LinkStepAtHead R p h r
 
-    moved : (p : ℕ) (h : Head) (r : ℕ) → p < now → Named R.sizes (cell.Head h) → head_at R (suc p) h ≡ r → head_at R p h ≢ r → LinkedBy R p h r
+    moved : (p : ℕ) (h : Head) (r : ℕ) → p < now → Named R.sizes (cell.Head h) → head_at R (suc p) h ≡ r → head_at R p h ≢ r → LinkStepAtHead R p h r
     moved p h r l n e m = by_step ((step R p).heads h n)
       where
-        by_step : HeadSteps R p h (head_at R (suc p) h) → LinkedBy R p h r
+        by_step : HeadSteps R p h (head_at R (suc p) h) → LinkStepAtHead R p h r
         by_step (stays q) = absurd (m (sym q ∙ e))
-        by_step (moves d q s) = subst (LinkedBy R p h) e (record { change = d; head = q; step = s })
+        by_step (moves d q s) = subst (LinkStepAtHead R p h) e (record { change = d; head = q; step = s })
 
     pub comes : (p : ℕ) (h : Head) (r : ℕ) → 0 < r → (c.at (suc p)).head h ≡ r → (c.at p).head h ≢ r → Comes p h r
     comes p h r o e m = ⊎_elim in_time after (cases_lt p now)
@@ -100,10 +88,10 @@ module _ (stamp : RunsStamp) (R : Run) where
         after : now ≤ p → Comes p h r
         after l = absurd (m (ap (λ k. (memory_of (R.state k)).head h) (sym (still p l)) ∙ e))
 
-    pub link_comes : (p : ℕ) (h : Head) (r : ℕ) → Links c R.sizes.keys p h r → Comes p h r
+    pub link_comes : (p : ℕ) (h : Head) (r : ℕ) → CourseLinkStep c R.sizes.keys p h r → Comes p h r
     link_comes p h r l = comes p h r l.row l.is (l.fresh p (omega arith))
 
-    pub linked_by : (p : ℕ) (h : Head) (r : ℕ) → LinkedBy R p h r → LinkedAt R (suc p) (head_kind h) r
+    pub linked_by : (p : ℕ) (h : Head) (r : ℕ) → LinkStepAtHead R p h r → LinkedAt R (suc p) (head_kind h) r
     linked_by p h r b = subst (λ g. LinkedAt R (suc p) (head_kind g) r) b.head b.step.linked
 
     -- a row from before the start is that of a head of the sizes
@@ -124,11 +112,11 @@ module _ (stamp : RunsStamp) (R : Run) where
         outside n = absurd (omega (arith, o.row, o.is, head_outside (min 0 now) h n))
 
     -- what was linked is linked
-    pub linked_then : (k : ℕ) (h : Head) (r : ℕ) → WasLinked c R.sizes.keys k h r → LinkedAt R (min k now) (head_kind h) r
+    pub linked_then : (k : ℕ) (h : Head) (r : ℕ) → CourseStepLinked c R.sizes.keys k h r → LinkedAt R (min k now) (head_kind h) r
     linked_then k h r (inl o) = let x = old_comes h r o in ((last R).times 0 (min k now) (omega arith)).linked (head_kind h) r x.linked
     linked_then k h r (inr w) =
         let x = link_comes w.time h r w.was in
         ((last R).times (suc w.time) (min k now) (omega (arith, w.before, x.early))).linked (head_kind h) r (linked_by w.time h r x.by)
 
-    pub stamped_then : (k : ℕ) (g : Kind) (f : Field) (r : ℕ) → k ≤ now → StampedIn R k g f r → Stamped c k g f r
+    pub stamped_then : (k : ℕ) (g : Kind) (f : Field) (r : ℕ) → k ≤ now → StampedAt R k g f r → CourseStamped c k g f r
     stamped_then k g f r l s = record { number = s.number; is = subst (λ m. mark_in (memory_of (R.state m)) g f r ≡ Stamp s.number) (at_time k l) s.is }

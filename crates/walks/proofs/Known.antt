@@ -4,11 +4,11 @@ use Rattle.layout.specs.Rows.{no_row}
 use Rattle.layout.specs.declared.names.Head.TheVariants as head
 use Rattle.places.specs.declared.place.Survey.{Survey}
 use Rattle.places.specs.declared.place.Survey.TheVariants.{Snapshot, Reach}
-use Rattle.places.specs.declared.place.Leg.{Leg}
+use Rattle.places.specs.declared.place.ServedPair.{ServedPair}
 use Rattle.places.specs.declared.place.Job.{Job}
 use Rattle.places.specs.declared.place.Job.TheVariants as job
 use Rattle.books.specs.declared.book.Book.{Book}
-use Rattle.books.specs.Serving.{leg_at, leg_number, open_at}
+use Rattle.books.specs.Serving.{pair_numbered, pair_number, open_at}
 use Rattle.walks.specs.Courses.{Course}
 use Rattle.walks.specs.Visible.{EdgeVisible, Found}
 use Rattle.walks.specs.Pages.{Page}
@@ -52,9 +52,9 @@ module _ (c : Course) (n : ℕ) where
     pub small : j < n
     pub seen : d.seen j ≡ true
     pub row : d.key j ≡ d.row j
-    pub place : ℕ
-    pub within : place < d.len
-    pub queued : d.queue place ≡ j
+    pub nth : ℕ
+    pub within : nth < d.len
+    pub queued : d.queue nth ≡ j
     pub reached : Reached v d.t k j
 
   -- the pair from i to j is served
@@ -94,17 +94,17 @@ module _ (c : Course) (n : ℕ) where
     pub len : d.len ≡ 0
 
   -- the walk of a pair found the edge row e, which leaves the row of its key
-  pub record Leaving (k : ℕ) (d : Draft) (l : Leg) (e : ℕ) : Type 0 where
+  pub record Leaving (k : ℕ) (d : Draft) (l : ServedPair) (e : ℕ) : Type 0 where
     pub row : 0 < e
     pub edge : Found c d.t k (head.Edge l.from l.to) e
     pub source : c.source e ≡ d.key l.from
 
-  -- the leg of the pair in turn
-  abbrev pub IsLeg : Book → Leg → Type 0
-  IsLeg b l = l ≡ leg_at b n (leg_number n l)
+  -- the pair of the pair in turn
+  abbrev pub IsServedPair : Book → ServedPair → Type 0
+  IsServedPair b l = l ≡ pair_numbered b n (pair_number n l)
 
   abbrev pub KnowsJob : ℕ → Survey → Book → Page → Job → Type 0
   KnowsJob k v b p (job.Key i) = (v ≡ Snapshot) × (i < n) × Rising k (draft_of b p) i
   KnowsJob k v b p (job.Start i) = (v ≡ Reach i) × (i < n) × Fresh (draft_of b p)
-  KnowsJob k v b p (job.Pair l) = IsLeg b l × Turning k v b p (leg_number n l)
-  KnowsJob k v b p (job.Target l e) = IsLeg b l × Turning k v b p (leg_number n l) × Leaving k (draft_of b p) l e × ((draft_of b p).seen l.to ≡ false)
+  KnowsJob k v b p (job.Pair l) = IsServedPair b l × Turning k v b p (pair_number n l)
+  KnowsJob k v b p (job.Target l e) = IsServedPair b l × Turning k v b p (pair_number n l) × Leaving k (draft_of b p) l e × ((draft_of b p).seen l.to ≡ false)

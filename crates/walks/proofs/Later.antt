@@ -25,7 +25,7 @@ module _ (c : Course) (n : ℕ) (law : Laws c n) (k l : ℕ) (u : k ≤ l) where
   reached_later (Reach i) t j h = way_later h
 
   joined_later : (v : Survey) (d : Draft) (j : ℕ) → Joined c n k v d j → Joined c n l v d j
-  joined_later v d j h = record { small = h.small; seen = h.seen; row = h.row; place = h.place; within = h.within; queued = h.queued; reached = reached_later v d.t j h.reached }
+  joined_later v d j h = record { small = h.small; seen = h.seen; row = h.row; nth = h.nth; within = h.within; queued = h.queued; reached = reached_later v d.t j h.reached }
 
   served_later : (d : Draft) (i j : ℕ) → Served c n k d i j → Served c n l d i j
   served_later d i j h = record { shown = shown_later h.shown; leads = λ m e a. h.leads m e (omega arith) }

@@ -1,8 +1,8 @@
 mod Times
-mod Steps
+pub mod Steps
 mod Chains
 mod Walking
-mod Drafts
+pub mod Drafts
 mod Known
 mod Counts
 mod Later
@@ -11,14 +11,14 @@ mod Fills
 mod Resolves
 mod Starts
 mod Jobs
-mod Surveys
+pub mod Surveys
 mod Right
 pub mod Sums
 mod Paces
 mod Costs
 mod Spends
 mod Turns
-mod Limits
+pub mod Limits
 mod Worked
 mod Effects
 pub mod Runs
@@ -27,9 +27,11 @@ mod Placed
 mod Begun
 pub mod Histories
 mod RunSteps
-mod RunCourses
-mod RunMarks
+pub mod OpenBack
+pub mod RunCourses
+pub mod RunMarks
 pub mod Written
 pub mod PageTurns
 pub mod RunSurveys
-mod RunAnswers
+pub mod RunAnswers
+pub mod Theorems

@@ -18,7 +18,7 @@ use Rattle.places.specs.Marks.{pending}
 use Rattle.places.specs.Moved.{Next, Next as next}
 use Rattle.places.specs.Touches.{head_kind}
 use Rattle.places.specs.Walks.{above, walked_ins, walked_del}
-use Rattle.walks.specs.Courses.{Course, Link, Old, Linked, Laws}
+use Rattle.walks.specs.Courses.{Course, CourseLink, Old, CourseLinked, Laws}
 use Rattle.walks.specs.Walking.{hand_in, next_in}
 use Rattle.walks.specs.Budgets.{links_over}
 use Rattle.walks.proofs.Times.{linked_some, Rests, LastLink, head_last}
@@ -36,7 +36,7 @@ abbrev pub stage_use : ℕ → Stage → ℕ
 stage_use u stage.First = u
 stage_use u stage.Clock = u + 1
 stage_use u (stage.Swap x) = u + 2
-stage_use u stage.Again = u + 3
+stage_use u stage.Reread = u + 3
 
 -- at a place, after n turns, where the walk began after at most b
 abbrev pub SpentPlace : Course → ℕ → ℕ → ℕ → Place → Type 0
@@ -49,7 +49,7 @@ SpentPlace c k n b p = ⊥
 
 -- a walk takes at most 8 turns, and one for each row of its head
 pub data SpentNext (c : Course) (k n b : ℕ) (h : Head) : Next → Type 0 where
-  at_place : (p : Place) → SpentPlace c k n b p → SpentNext c k n b h (next.Out (Continue p))
+  at_place : (p : Place) → SpentPlace c k n b p → SpentNext c k n b h (next.Moved (Continue p))
   at_end : (w : Walk) (r : ℕ) → n ≤ b + (8 + links_over c k h) → SpentNext c k n b h (next.Walked w r)
 
 module _ (c : Course) (n : ℕ) (law : Laws c n) where
@@ -57,7 +57,7 @@ module _ (c : Course) (n : ℕ) (law : Laws c n) where
   unfolding links_over
   links_mono k l h u = le_ind (λ m. links_over c k h ≤ links_over c m h) (omega arith) (λ m a g. omega arith) l u
 
-  links_link : (p : ℕ) (h : Head) (r : ℕ) → Link c p h r → suc (links_over c p h) ≤ links_over c (suc p) h
+  links_link : (p : ℕ) (h : Head) (r : ℕ) → CourseLink c p h r → suc (links_over c p h) ≤ links_over c (suc p) h
   unfolding links_over
   links_link p h r l = by_test (eqb ((c.at (suc p)).head h) ((c.at p).head h)) refl
     where
@@ -98,10 +98,10 @@ module _ (c : Course) (n : ℕ) (law : Laws c n) where
     more : (r x y : ℕ) → x + 1 ≤ y → Pass c k h r m x → Pass c k h r (suc m) y
     more r x y l p = record { when = p.when; before = p.before; is = p.is; count = omega (arith, p.count) }
 
-    lower : (r s : ℕ) → 0 < r → Pass c k h r m (b + 4) → c.older (head_kind h) r ≡ s → SpentNext c k (suc m) b h (cond (eqb s no_row) (next.Walked w no_row) (next.Out (Continue (place.WalkOlder w s))))
+    lower : (r s : ℕ) → 0 < r → Pass c k h r m (b + 4) → c.older (head_kind h) r ≡ s → SpentNext c k (suc m) b h (cond (eqb s no_row) (next.Walked w no_row) (next.Moved (Continue (place.WalkOlder w s))))
     lower r s z p e = by_last (head_last c n law p.when h r p.is z)
       where
-        by_last : Rests c n law p.when h r ⊎ LastLink c n law p.when h r → SpentNext c k (suc m) b h (cond (eqb s no_row) (next.Walked w no_row) (next.Out (Continue (place.WalkOlder w s))))
+        by_last : Rests c n law p.when h r ⊎ LastLink c n law p.when h r → SpentNext c k (suc m) b h (cond (eqb s no_row) (next.Walked w no_row) (next.Moved (Continue (place.WalkOlder w s))))
         by_last (inl o) =
             let q : s ≡ no_row = sym e ∙ (law.old h r o.old).under in
             let none : eqb s no_row ≡ true = eq-eqb s no_row q in
@@ -111,22 +111,22 @@ module _ (c : Course) (n : ℕ) (law : Laws c n) where
             fewer : suc m + links_over c l.time h ≤ b + 4 + links_over c k h
             fewer = omega (arith, p.count, passed_one p.when h r l)
 
-            by_test : (q : Bool) → SpentNext c k (suc m) b h (cond q (next.Walked w no_row) (next.Out (Continue (place.WalkOlder w s))))
+            by_test : (q : Bool) → SpentNext c k (suc m) b h (cond q (next.Walked w no_row) (next.Moved (Continue (place.WalkOlder w s))))
             by_test true = at_end w no_row (omega (arith, fewer))
             by_test false = at_place (place.WalkOlder w s) (record { when = l.time; before = omega (arith, p.before, l.before); is = sym l.link.under ∙ e; count = fewer })
 
-    ins_settled : (r : ℕ) (hand : Hand) (v : Mark) → Linked c k h r → hand.older ≡ (c.at k).older (head_kind h) r → Pass c k h r m (b + 4) → SpentNext c k (suc m) b h (walked_ins w r hand v)
+    ins_settled : (r : ℕ) (hand : Hand) (v : Mark) → CourseLinked c k h r → hand.older ≡ (c.at k).older (head_kind h) r → Pass c k h r m (b + 4) → SpentNext c k (suc m) b h (walked_ins w r hand v)
     ins_settled r hand v x e p = by_test (above hand.t v)
       where
         by_test : (q : Bool) → SpentNext c k (suc m) b h
-            (cond q (cond (eqb hand.older no_row) (next.Walked w no_row) (next.Out (Continue (place.WalkOlder w hand.older)))) (next.Out (Continue (place.Settle stage.First (purpose.Walk Del w r)))))
+            (cond q (cond (eqb hand.older no_row) (next.Walked w no_row) (next.Moved (Continue (place.WalkOlder w hand.older)))) (next.Moved (Continue (place.Settle stage.First (purpose.Walk Del w r)))))
         by_test true = lower r hand.older (linked_some x) p (sym (e ∙ law.older k h r x))
         by_test false = at_place (place.Settle stage.First (purpose.Walk Del w r)) (more r (b + 4) (b + 5) (omega arith) p)
 
     del_settled : (r : ℕ) (hand : Hand) (v : Mark) → 0 < r → Pass c k h r m (b + 8) → SpentNext c k (suc m) b h (walked_del w r hand v)
     del_settled r hand v z p = let l = head_last c n law p.when h r p.is z in at_end w _ (omega (arith, p.count, passed_some p.when h r l))
 
-    first_read : (p : Place) (v : Next) (q : Bool) → SpentPlace c k (suc m) b p → SpentNext c k (suc m) b h v → SpentNext c k (suc m) b h (cond q (next.Out (Continue p)) v)
+    first_read : (p : Place) (v : Next) (q : Bool) → SpentPlace c k (suc m) b p → SpentNext c k (suc m) b h v → SpentNext c k (suc m) b h (cond q (next.Moved (Continue p)) v)
     first_read p v true s o = at_place p s
     first_read p v false s o = o
 
@@ -134,10 +134,10 @@ module _ (c : Course) (n : ℕ) (law : Laws c n) where
     weaker r x y l p = pass_later k k h r m x y (omega arith) l p
 
     -- the head was read
-    head_read : (r : ℕ) → (c.at k).head h ≡ r → m ≤ b → SpentNext c k (suc m) b h (cond (eqb r no_row) (next.Walked w no_row) (next.Out (Continue (place.Settle stage.First (purpose.Walk Ins w r)))))
+    head_read : (r : ℕ) → (c.at k).head h ≡ r → m ≤ b → SpentNext c k (suc m) b h (cond (eqb r no_row) (next.Walked w no_row) (next.Moved (Continue (place.Settle stage.First (purpose.Walk Ins w r)))))
     head_read r e l = by_test (eqb r no_row)
       where
-        by_test : (q : Bool) → SpentNext c k (suc m) b h (cond q (next.Walked w no_row) (next.Out (Continue (place.Settle stage.First (purpose.Walk Ins w r)))))
+        by_test : (q : Bool) → SpentNext c k (suc m) b h (cond q (next.Walked w no_row) (next.Moved (Continue (place.Settle stage.First (purpose.Walk Ins w r)))))
         by_test true = at_end w no_row (omega arith)
         by_test false = at_place (place.Settle stage.First (purpose.Walk Ins w r)) (record { when = k; before = omega arith; is = e; count = omega arith })
 
@@ -147,15 +147,15 @@ module _ (c : Course) (n : ℕ) (law : Laws c n) where
         first_read (place.Settle stage.Clock (purpose.Walk Ins w r)) _ (eqb ((c.at k).stamp (head_kind h) Ins r) pending) (more r _ _ (omega arith) s)
         (ins_settled r (hand_in (c.at k) t (place.Settle stage.First (purpose.Walk Ins w r))) _ y refl (weaker r _ _ (omega arith) s))
     turn_spends top p (at_ins stage.Clock r x y z) s = at_place (place.Settle (stage.Swap (c.at k).clock) (purpose.Walk Ins w r)) (more r _ _ (omega arith) s)
-    turn_spends top p (at_ins (stage.Swap a) r x y z) s = at_place (place.Settle stage.Again (purpose.Walk Ins w r)) (more r _ _ (omega arith) s)
-    turn_spends top p (at_ins stage.Again r x y z) s = ins_settled r (hand_in (c.at k) t (place.Settle stage.Again (purpose.Walk Ins w r))) _ y refl (weaker r _ _ (omega arith) s)
+    turn_spends top p (at_ins (stage.Swap a) r x y z) s = at_place (place.Settle stage.Reread (purpose.Walk Ins w r)) (more r _ _ (omega arith) s)
+    turn_spends top p (at_ins stage.Reread r x y z) s = ins_settled r (hand_in (c.at k) t (place.Settle stage.Reread (purpose.Walk Ins w r))) _ y refl (weaker r _ _ (omega arith) s)
     turn_spends top p (at_older r x y z) s = ins_settled r (hand_in (c.at k) t (place.WalkOlder w r)) _ y refl s
     turn_spends top p (at_del stage.First r x y z o) s =
         first_read (place.Settle stage.Clock (purpose.Walk Del w r)) _ (eqb ((c.at k).stamp (head_kind h) Del r) pending) (more r _ _ (omega arith) s)
         (del_settled r (hand_in (c.at k) t (place.Settle stage.First (purpose.Walk Del w r))) _ (linked_some y) (weaker r _ _ (omega arith) s))
     turn_spends top p (at_del stage.Clock r x y z o) s = at_place (place.Settle (stage.Swap (c.at k).clock) (purpose.Walk Del w r)) (more r _ _ (omega arith) s)
-    turn_spends top p (at_del (stage.Swap a) r x y z o) s = at_place (place.Settle stage.Again (purpose.Walk Del w r)) (more r _ _ (omega arith) s)
-    turn_spends top p (at_del stage.Again r x y z o) s = del_settled r (hand_in (c.at k) t (place.Settle stage.Again (purpose.Walk Del w r))) _ (linked_some y) (weaker r _ _ (omega arith) s)
+    turn_spends top p (at_del (stage.Swap a) r x y z o) s = at_place (place.Settle stage.Reread (purpose.Walk Del w r)) (more r _ _ (omega arith) s)
+    turn_spends top p (at_del stage.Reread r x y z o) s = del_settled r (hand_in (c.at k) t (place.Settle stage.Reread (purpose.Walk Del w r))) _ (linked_some y) (weaker r _ _ (omega arith) s)
 
     -- at each place no more than the walk may take
     pub place_fits : (p : Place) → Knows c t w k p → SpentPlace c k m b p → m ≤ b + (8 + links_over c k h)
@@ -163,9 +163,9 @@ module _ (c : Course) (n : ℕ) (law : Laws c n) where
     place_fits p (at_ins stage.First r x y z) s = omega (arith, s.count)
     place_fits p (at_ins stage.Clock r x y z) s = omega (arith, s.count)
     place_fits p (at_ins (stage.Swap a) r x y z) s = omega (arith, s.count)
-    place_fits p (at_ins stage.Again r x y z) s = omega (arith, s.count)
+    place_fits p (at_ins stage.Reread r x y z) s = omega (arith, s.count)
     place_fits p (at_older r x y z) s = omega (arith, s.count)
     place_fits p (at_del stage.First r x y z o) s = omega (arith, s.count)
     place_fits p (at_del stage.Clock r x y z o) s = omega (arith, s.count)
     place_fits p (at_del (stage.Swap a) r x y z o) s = omega (arith, s.count)
-    place_fits p (at_del stage.Again r x y z o) s = omega (arith, s.count)
+    place_fits p (at_del stage.Reread r x y z o) s = omega (arith, s.count)

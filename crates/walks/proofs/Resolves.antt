@@ -6,26 +6,26 @@ use Rattle.layout.specs.declared.names.Head.{Head}
 use Rattle.layout.specs.declared.names.Head.TheVariants as head
 use Rattle.places.specs.declared.place.Survey.{Survey}
 use Rattle.places.specs.declared.place.Survey.TheVariants.{Snapshot, Reach}
-use Rattle.places.specs.declared.place.Leg.{Leg}
+use Rattle.places.specs.declared.place.ServedPair.{ServedPair}
 use Rattle.places.specs.declared.place.Hand.{Hand}
 use Rattle.books.specs.declared.book.Book.{Book}
 use Rattle.books.specs.declared.walked.Entry.TheVariants as entry
 use Rattle.books.specs.Books.{shown_of, row_of, joined}
-use Rattle.books.specs.Serving.{leg_number, serve_from}
-use Rattle.books.specs.Walked.{Outcome, joins, resolved}
+use Rattle.books.specs.Serving.{pair_number, serve_from}
+use Rattle.books.specs.Walked.{WalkOutcome, joins, resolved}
 use Rattle.walks.specs.Courses.{Course, Laws}
 use Rattle.walks.specs.Visible.{EdgeVisible, StaysVisible, Found}
 use Rattle.walks.specs.Pages.{Page, with_key, with_pair, written}
 use Rattle.walks.proofs.Times.{linked_some}
 use Rattle.walks.proofs.Drafts.{put_here, Draft, draft_of, join_in, Kept, draft_joined, kept_joined}
-use Rattle.walks.proofs.Known.{StaysEdge, NoEdge, go_on, Shown, weighs, Served, Serving, Leaving, IsLeg}
+use Rattle.walks.proofs.Known.{StaysEdge, NoEdge, go_on, Shown, weighs, Served, Serving, Leaving, IsServedPair}
 use Rattle.walks.proofs.Counts.{shown_fewer}
-use Rattle.walks.proofs.Serves.{KnowsOut, served_none, serving_on, serve_knows}
+use Rattle.walks.proofs.Serves.{KnowsFlow, served_none, serving_on, serve_knows}
 use Rattle.walks.proofs.Fills.{in_queue, serving_pair, old_place, serving_joined}
 
 -- what is known after a walk has gone into the book and the page
-pub record KnowsWalked (c : Course) (n k : ℕ) (v : Survey) (t : ℕ) (p : Page) (o : Outcome) : Type 0 where
-  pub out : KnowsOut c n k v o.book (written p o.entry) o.out
+pub record KnowsWalked (c : Course) (n k : ℕ) (v : Survey) (t : ℕ) (p : Page) (o : WalkOutcome) : Type 0 where
+  pub out : KnowsFlow c n k v o.book (written p o.entry) o.out
   pub kept : Kept o.book (written p o.entry)
   pub raise : o.book.t ≡ t
 
@@ -43,27 +43,27 @@ module _ (c : Course) (n : ℕ) (law : Laws c n) (some_key : 0 < n) (few : n ≤
 
   -- on from pair number x, which is served
   pub next_pair : (v : Survey) (b : Book) (p : Page) (x : ℕ) → x < n * b.len → Serving c n k v (draft_of b p) x →
-      Served c n k (draft_of b p) ((draft_of b p).queue (x / n)) (x % n) → KnowsOut c n k v b p (serve_from b v n (x + 1))
+      Served c n k (draft_of b p) ((draft_of b p).queue (x / n)) (x % n) → KnowsFlow c n k v b p (serve_from b v n (x + 1))
   next_pair v b p x l s g = serve_knows c n law k v b p (x + 1) (omega arith) (serving_one v (draft_of b p) x s g)
 
-  module _ (b : Book) (p : Page) (kept : Kept b p) (l : Leg) (leg : IsLeg c n b l) where
+  module _ (b : Book) (p : Page) (kept : Kept b p) (l : ServedPair) (pair : IsServedPair c n b l) where
     abbrev d : Draft
     d = draft_of b p
 
     abbrev x : ℕ
-    x = leg_number n l
+    x = pair_number n l
 
     from_is : l.from ≡ d.queue (x / n)
-    from_is = ap (λ (a : Leg). a.from) leg
+    from_is = ap (λ (a : ServedPair). a.from) pair
 
     to_is : l.to ≡ x % n
-    to_is = ap (λ (a : Leg). a.to) leg
+    to_is = ap (λ (a : ServedPair). a.to) pair
 
     pub to_small : l.to < n
     to_small = rw to_is (mod-lt x some_key)
 
-    -- the pair of the leg has no edge
-    pub next_none : (v : Survey) → x < n * b.len → Serving c n k v d x → NoEdge c b.t k l.from l.to → KnowsOut c n k v b p (serve_from b v n (x + 1))
+    -- the pair of the pair has no edge
+    pub next_none : (v : Survey) → x < n * b.len → Serving c n k v d x → NoEdge c b.t k l.from l.to → KnowsFlow c n k v b p (serve_from b v n (x + 1))
     next_none v w s f = next_pair v b p x w s (subst₂ (λ i j. Served c n k d i j) from_is to_is (served_none c n law k v d x l.from l.to s f))
 
     module _ (e : ℕ) (h : Hand) (target : h.target ≡ c.target e) (weight : h.weight ≡ c.weight e)
@@ -110,7 +110,7 @@ module _ (c : Course) (n : ℕ) (law : Laws c n) (some_key : 0 < n) (few : n ≤
         cell_here = grind (arith, nat_tests)
 
         -- no key joins
-        stays_knows : 0 < d.key l.to → KnowsOut c n k v b page (serve_from b v n (x + 1))
+        stays_knows : 0 < d.key l.to → KnowsFlow c n k v b page (serve_from b v n (x + 1))
         stays_knows y =
             next_pair v b page x within filled
             (subst₂ (λ i j. Served c n k (draft_of b page) i j) from_is to_is (record { shown = rw cell_here weighed; leads = λ m f a w. y }))
@@ -152,7 +152,7 @@ module _ (c : Course) (n : ℕ) (law : Laws c n) (some_key : 0 < n) (few : n ≤
         length_is : (joined b l.to).len ≡ b.len + 1
         length_is = ap (λ (a : Draft). a.len) draft_is
 
-        joins_knows : KnowsOut c n k (Reach i) (joined b l.to) joined_page (serve_from (joined b l.to) (Reach i) n (x + 1))
+        joins_knows : KnowsFlow c n k (Reach i) (joined b l.to) joined_page (serve_from (joined b l.to) (Reach i) n (x + 1))
         joins_knows =
             next_pair (Reach i) (joined b l.to) joined_page x (rw length_is (omega arith)) (rw draft_is serves) (subst (λ a. Served c n k a (a.queue (x / n)) (x % n)) (sym draft_is) target_served)
 

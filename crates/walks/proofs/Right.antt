@@ -15,7 +15,7 @@ use Rattle.order.specs.Graph.{Reached}
 use Rattle.walks.specs.Courses.{Course, Laws}
 use Rattle.walks.specs.Visible.{Visible, EdgeVisible, StaysVisible, Stands}
 use Rattle.walks.specs.Pages.{Page, has_key, graph_of}
-use Rattle.walks.specs.Surveys.{Going, turn_of, Says, Right, PagesStand}
+use Rattle.walks.specs.Surveys.{Going, turn_of, Says, RightSurvey, PagesStand}
 use Rattle.walks.proofs.Times.{linked_some}
 use Rattle.walks.proofs.Drafts.{Draft, draft_of, Kept}
 use Rattle.walks.proofs.Known.{StaysEdge, Way, stay, go_on, Shown, nothing, weighs, Served, Serving}
@@ -94,7 +94,7 @@ module _ (c : Course) (n : ℕ) (law : Laws c n) (k l : ℕ) (u : k ≤ l) (b : 
         (s.served (m * n + j) (omega (arith, mul-add-lt m n j b.len a o, mul_comm n b.len)) (omega (arith, mul-add-lt m n j b.len a o, mul_comm n b.len)))
 
     from_key : (i j : ℕ) → 0 < d.key i → j < n → Served c n k d i j
-    from_key i j z m = let o = s.joined i z in rw o.queued at (at_place o.place j o.within m)
+    from_key i j z m = let o = s.joined i z in rw o.queued at (at_place o.nth j o.within m)
 
     -- outside there is no edge
     outside : (i j : ℕ) → (i < n → j < n → ⊥) → Shown c b.t k i j (p.pair i j)
@@ -185,7 +185,7 @@ says c n law k l u v a b p kept g st (part_shown i e s) = rw e (reach_right c n 
 says c n law k l u v a b p kept g st (start_absent i e f) =
     rw e (has_none c n law k l u b p kept g st i (λ r w. omega (arith, f.only l r u w tt, (linked_some w.linked))))
 
-right_as : (c : Course) (n : ℕ) → Laws c n → (v : Survey) (began k : ℕ) (a : Answer) (g : Going) → Answered c n v began k g.book g.page a → Right c n v began k a g
+right_as : (c : Course) (n : ℕ) → Laws c n → (v : Survey) (began k : ℕ) (a : Answer) (g : Going) → Answered c n v began k g.book g.page a → RightSurvey c n v began k a g
 right_as c n law v began k a g (with_page e h r) = record {
   raised = raised_for c n k v g.book g.page a began e r;
   says = λ l graph u st. says c n law k l u v a g.book g.page h graph st e;

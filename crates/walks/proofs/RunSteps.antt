@@ -18,37 +18,38 @@ use Rattle.places.specs.declared.place.Change.TheVariants as change
 use Rattle.places.specs.declared.place.Look.TheVariants as look
 use Rattle.places.specs.declared.place.Call.{Call}
 use Rattle.places.specs.declared.place.Place.TheVariants as place
-use Rattle.runs.specs.Runs.{Run}
+use Rattle.runs.specs.Runs.{RunInTime}
 use Rattle.runs.specs.Views.{number_at, head_at, LinkedAt}
-use Rattle.runs.specs.Steps.{LinkStep, RunsStep}
-use Rattle.runs.specs.Times.{Past, LinkedBy, RunsLast}
-use Rattle.runs.specs.Known.{Stamped as StampedIn, Dead, Shut, KnownLink, Saw, Half, Firm, Known, BoundTo}
+use Rattle.runs.specs.Steps.{LinkStep}
+use Rattle.runs.specs.Times.{Before, LinkStepAtHead}
+use Rattle.runs.specs.Known.{StampedAt, Dead, Shut, KnownLink, Saw, Half, Firm, Known, BoundTo}
 use Rattle.runs.specs.Purposes.{InCall, change_call}
-use Rattle.runs.specs.Reasons.{WorkerKnows, WorkerKnows.free, WorkerKnows.busy, BegunBy, RunsKnow}
-use Rattle.runs.specs.Events.{RunsEvents}
-use Rattle.laws.specs.Stamps.{RunsStamp}
+use Rattle.runs.specs.Reasons.{WorkerKnows, WorkerKnows.free, WorkerKnows.busy, BegunBy}
 use Rattle.walks.specs.Memory.{mark_in, memory_of}
-use Rattle.walks.specs.Courses.{Course, Stamped}
-use Rattle.walks.specs.Steps.{Replaced, EdgeLinks, VertexLinks, LinksOver, Links}
+use Rattle.walks.specs.Courses.{Course, CourseStamped}
+use Rattle.walks.specs.Steps.{Replaced, EdgeLinks, VertexLinks, LinksOver, CourseLinkStep}
 use Rattle.walks.specs.Histories.{run_course}
 use Rattle.walks.proofs.Begun.{AddsEdge, begun_adds}
-use Rattle.walks.proofs.Effects.{row_is}
+use Rattle.laws.proofs.Owned.{linked_row}
 use Rattle.walks.proofs.Histories.{at_time, head_then, stamped_then}
+use Rattle.runs.proofs.Times.{runs_last as last}
+use Rattle.runs.proofs.Knows.{runs_know as know}
+use Rattle.runs.proofs.Ends.{runs_events as events}
 
 -- what is known of a change that links at time k
-pub record KnownChange (R : Run) (k : ℕ) (d : Change) : Type 0 where
+pub record KnownChange (R : RunInTime) (k : ℕ) (d : Change) : Type 0 where
   pub began : ℕ
   pub why : KnownLink R k began d (head_at R k (change_head d))
   pub call : Call
   pub is : change_call Add d ≡ call
   pub begun : (w : ℕ) × BegunBy R k w began call
 
-pub adds_edge : (R : Run) (k : ℕ) (d : Bound) → KnownChange R k (change.Edge d) → AddsEdge d.pair
+pub adds_edge : (R : RunInTime) (k : ℕ) (d : Bound) → KnownChange R k (change.Edge d) → AddsEdge d.pair
 adds_edge R k d h =
     let b = h.begun.1 in
     begun_adds (R.state h.began) b.begin d.pair (b.call ∙ ap (λ (x : Call). Ok x) (sym h.is))
 
-module _ (stamp : RunsStamp) (step : RunsStep) (last : RunsLast) (know : RunsKnow) (events : RunsEvents) (R : Run) (now : ℕ) where
+module _ (R : RunInTime) (now : ℕ) where
   abbrev c : Course
   c = run_course R now
 
@@ -69,12 +70,12 @@ module _ (stamp : RunsStamp) (step : RunsStep) (last : RunsLast) (know : RunsKno
       }
 
   -- a row whose del bears a stamp was born
-  born : (k : ℕ) (g : Kind) (r : ℕ) → LinkedAt R k g r → StampedIn R k g Del r → StampedIn R k g Ins r
+  born : (k : ℕ) (g : Kind) (r : ℕ) → LinkedAt R k g r → StampedAt R k g Del r → StampedAt R k g Ins r
   born k g r l d =
       let p = (events R).ended k g r l (λ e. no_stamp (sym d.is ∙ e)) in
       let x = p.held in
       let was : LinkedAt R p.time g r = subst (λ f. LinkedAt R p.time f r) x.kind x.event.linked in
-      let b : StampedIn R p.time g Ins r = subst (λ f. StampedIn R p.time f Ins r) x.kind x.event.born in
+      let b : StampedAt R p.time g Ins r = subst (λ f. StampedAt R p.time f Ins r) x.kind x.event.born in
       record { number = b.number; is = ((last R).times p.time k (omega (arith, p.before))).stamp g Ins r b.number was b.is }
     where
       no_stamp : Stamp d.number ≡ NotEnded → ⊥
@@ -85,17 +86,17 @@ module _ (stamp : RunsStamp) (step : RunsStep) (last : RunsLast) (know : RunsKno
     over_vertex i m h = record { key = m; over = ⊎_elim none dead h.why.1 }
       where
         same : (c.at k).head (head.Vertex i) ≡ head_at R k (head.Vertex i)
-        same = head_then stamp R step last now k (head.Vertex i) (omega arith) m
+        same = head_then R now k (head.Vertex i) (omega arith) m
 
         none : head_at R k (head.Vertex i) ≡ 0 → ((c.at k).head (head.Vertex i) ≡ no_row) ⊎
-            (Stamped c k kind.Vertex Ins ((c.at k).head (head.Vertex i)) × Stamped c k kind.Vertex Del ((c.at k).head (head.Vertex i)))
+            (CourseStamped c k kind.Vertex Ins ((c.at k).head (head.Vertex i)) × CourseStamped c k kind.Vertex Del ((c.at k).head (head.Vertex i)))
         none e = inl (same ∙ e)
 
         dead : Dead R k (head_at R k (head.Vertex i)) → ((c.at k).head (head.Vertex i) ≡ no_row) ⊎
-            (Stamped c k kind.Vertex Ins ((c.at k).head (head.Vertex i)) × Stamped c k kind.Vertex Del ((c.at k).head (head.Vertex i)))
-        dead d = inr (subst (λ x. Stamped c k kind.Vertex Ins x × Stamped c k kind.Vertex Del x) (sym same) (
-          stamped_then stamp R step last now k kind.Vertex Ins _ (omega arith) (born k kind.Vertex _ d.linked d.ended),
-          stamped_then stamp R step last now k kind.Vertex Del _ (omega arith) d.ended,
+            (CourseStamped c k kind.Vertex Ins ((c.at k).head (head.Vertex i)) × CourseStamped c k kind.Vertex Del ((c.at k).head (head.Vertex i)))
+        dead d = inr (subst (λ x. CourseStamped c k kind.Vertex Ins x × CourseStamped c k kind.Vertex Del x) (sym same) (
+          stamped_then R now k kind.Vertex Ins _ (omega arith) (born k kind.Vertex _ d.linked d.ended),
+          stamped_then R now k kind.Vertex Del _ (omega arith) d.ended,
         ))
 
     -- what an edge row is bound to now is what it was bound to
@@ -122,8 +123,8 @@ module _ (stamp : RunsStamp) (step : RunsStep) (last : RunsLast) (know : RunsKno
       replaced : (e : ℕ) → Shut R k e d → Replaced c n k e r
       replaced e h = ⊎_elim ended unbound h.why
         where
-          ended : StampedIn R k kind.Edge Del e → Replaced c n k e r
-          ended x = inl (stamped_then stamp R step last now k kind.Edge Del e (omega arith) x)
+          ended : StampedAt R k kind.Edge Del e → Replaced c n k e r
+          ended x = inl (stamped_then R now k kind.Edge Del e (omega arith) x)
 
           other : ¬ (BoundTo R k e d) → c.source e ≡ c.source r → c.target e ≢ c.target r
           other f x y = f (sym (source_then k e (omega arith) h.linked) ∙ x ∙ source_is, sym (target_then k e (omega arith) h.linked) ∙ y ∙ target_is)
@@ -138,22 +139,22 @@ module _ (stamp : RunsStamp) (step : RunsStep) (last : RunsLast) (know : RunsKno
         apart = adds.apart;
         weight = omega (arith, adds.weight, weight_is);
         read = saw.time;
-        reads = head_then stamp R step last now saw.time pair (omega (arith, saw.before, half.before, firm.before)) m ∙ saw.held.1 ∙ sym same;
+        reads = head_then R now saw.time pair (omega (arith, saw.before, half.before, firm.before)) m ∙ saw.held.1 ∙ sym same;
         source = record {
           time = half.time;
           after = omega (arith, saw.before);
           before = omega (arith, half.before, firm.before);
-          is = head_then stamp R step last now half.time (head.Vertex d.pair.from) (omega (arith, half.before, firm.before)) m.0 ∙ half.held.1.head ∙ sym source_is;
-          row = omega (arith, source_is, (row_is (R.state half.time) kind.Vertex d.source half.held.1.linked).0);
+          is = head_then R now half.time (head.Vertex d.pair.from) (omega (arith, half.before, firm.before)) m.0 ∙ half.held.1.head ∙ sym source_is;
+          row = omega (arith, source_is, (linked_row (R.state half.time) kind.Vertex d.source half.held.1.linked).0);
         };
         target = record {
           time = firm.time;
           after = omega (arith, saw.before, half.before);
           before = omega (arith, firm.before);
-          is = head_then stamp R step last now firm.time (head.Vertex d.pair.to) (omega (arith, firm.before)) m.1 ∙ firm.held.1.head ∙ sym target_is;
-          row = omega (arith, target_is, (row_is (R.state firm.time) kind.Vertex d.target firm.held.1.linked).0);
+          is = head_then R now firm.time (head.Vertex d.pair.to) (omega (arith, firm.before)) m.1 ∙ firm.held.1.head ∙ sym target_is;
+          row = omega (arith, target_is, (linked_row (R.state firm.time) kind.Vertex d.target firm.held.1.linked).0);
         };
-        over = ⊎_elim (λ (e : head_at R k pair ≡ 0). inl (same ∙ e)) (λ (x : Shut R k (head_at R k pair) d). inr (subst (λ e. Stamped c k kind.Edge Ins e × Replaced c n k e r) (sym same) (shut x))) h.why.1;
+        over = ⊎_elim (λ (e : head_at R k pair ≡ 0). inl (same ∙ e)) (λ (x : Shut R k (head_at R k pair) d). inr (subst (λ e. CourseStamped c k kind.Edge Ins e × Replaced c n k e r) (sym same) (shut x))) h.why.1;
       }
         where
           pair : Head
@@ -163,7 +164,7 @@ module _ (stamp : RunsStamp) (step : RunsStep) (last : RunsLast) (know : RunsKno
           adds = adds_edge R k d h
 
           same : (c.at k).head pair ≡ head_at R k pair
-          same = head_then stamp R step last now k pair (omega arith) m
+          same = head_then R now k pair (omega arith) m
 
           firm : Firm R k h.began Add d (Err (head_at R k pair))
           firm = h.why.0
@@ -174,8 +175,8 @@ module _ (stamp : RunsStamp) (step : RunsStep) (last : RunsLast) (know : RunsKno
           saw : Saw R half.time h.began (look.Edge Add d) (head_at R k pair)
           saw = half.held.2.0
 
-          shut : Shut R k (head_at R k pair) d → Stamped c k kind.Edge Ins (head_at R k pair) × Replaced c n k (head_at R k pair) r
-          shut x = (stamped_then stamp R step last now k kind.Edge Ins _ (omega arith) x.born, replaced _ x)
+          shut : Shut R k (head_at R k pair) d → CourseStamped c k kind.Edge Ins (head_at R k pair) × Replaced c n k (head_at R k pair) r
+          shut x = (stamped_then R now k kind.Edge Ins _ (omega arith) x.born, replaced _ x)
 
     over_of : (d : Change) (r : ℕ) → LinkStep R k d r → Named R.sizes (cell.Head (change_head d)) → LinksOver c n k (change_head d) r
     over_of (change.Vertex i) r s m = over_vertex i m (known_change k (change.Vertex i) r s)
@@ -186,29 +187,29 @@ module _ (stamp : RunsStamp) (step : RunsStep) (last : RunsLast) (know : RunsKno
     fresh d r s m o q u e = ⊎_elim old later ((last R).head q (change_head d) m (omega (arith, o, here)))
       where
         here : head_at R q (change_head d) ≡ r
-        here = sym (head_then stamp R step last now q (change_head d) (omega arith) m) ∙ e
+        here = sym (head_then R now q (change_head d) (omega arith) m) ∙ e
 
         old : head_at R q (change_head d) ≡ head_at R 0 (change_head d) → ⊥
         old x =
             let was : LinkedAt R 0 (change_kind d) r = subst (LinkedAt R 0 (change_kind d)) (sym x ∙ here) ((last R).old_head (change_head d) m (omega (arith, o, here, x))) in
             s.fresh (((last R).times 0 k (omega arith)).linked (change_kind d) r was)
 
-        later : Past q (λ t. LinkedBy R t (change_head d) (head_at R q (change_head d))) → ⊥
+        later : Before q (λ t. LinkStepAtHead R t (change_head d) (head_at R q (change_head d))) → ⊥
         later y =
-            let p : Past q (λ t. LinkedBy R t (change_head d) r) = subst (λ x. Past q (λ t. LinkedBy R t (change_head d) x)) here y in
+            let p : Before q (λ t. LinkStepAtHead R t (change_head d) r) = subst (λ x. Before q (λ t. LinkStepAtHead R t (change_head d) x)) here y in
             let was : LinkedAt R (suc p.time) (change_kind d) r = subst (λ g. LinkedAt R (suc p.time) (head_kind g) r) p.held.head p.held.step.linked in
             s.fresh (((last R).times (suc p.time) k (omega (arith, p.before))).linked (change_kind d) r was)
 
-    pub links_of : (d : Change) (r : ℕ) → LinkStep R k d r → Named R.sizes (cell.Head (change_head d)) → Links c n k (change_head d) r
+    pub links_of : (d : Change) (r : ℕ) → LinkStep R k d r → Named R.sizes (cell.Head (change_head d)) → CourseLinkStep c n k (change_head d) r
     links_of d r s m = record {
       row = o;
-      is = head_then stamp R step last now (suc k) (change_head d) l m ∙ s.head;
+      is = head_then R now (suc k) (change_head d) l m ∙ s.head;
       fresh = fresh d r s m o;
-      under = ((last R).times (suc k) (min now now) (omega arith)).older (change_kind d) r s.linked ∙ s.older ∙ sym (head_then stamp R step last now k (change_head d) (omega arith) m);
-      ins = subst (λ t. mark_in (memory_of (R.state t)) (change_kind d) Ins r ≡ Pending) (at_time stamp R step last now (suc k) l) s.ins;
-      del = subst (λ t. mark_in (memory_of (R.state t)) (change_kind d) Del r ≡ NotEnded) (at_time stamp R step last now (suc k) l) s.del;
+      under = ((last R).times (suc k) (min now now) (omega arith)).older (change_kind d) r s.linked ∙ s.older ∙ sym (head_then R now k (change_head d) (omega arith) m);
+      ins = subst (λ t. mark_in (memory_of (R.state t)) (change_kind d) Ins r ≡ Pending) (at_time R now (suc k) l) s.ins;
+      del = subst (λ t. mark_in (memory_of (R.state t)) (change_kind d) Del r ≡ NotEnded) (at_time R now (suc k) l) s.del;
       over = over_of d r s m;
     }
       where
         o : 0 < r
-        o = (row_is (R.state (suc k)) (change_kind d) r s.linked).0
+        o = (linked_row (R.state (suc k)) (change_kind d) r s.linked).0

@@ -11,15 +11,15 @@ use Rattle.places.specs.declared.place.Stage.TheVariants as stage
 use Rattle.places.specs.declared.place.Place.{Place}
 use Rattle.places.specs.declared.place.Place.TheVariants as place
 use Rattle.places.specs.Moved.{Next, Next as next}
-use Rattle.places.specs.Outs.{Out}
+use Rattle.places.specs.Flows.{Flow}
 use Rattle.places.specs.Touches.{touch_of, change_kind, job_head}
 use Rattle.places.specs.Nexts.{next_of}
-use Rattle.stepper.specs.States.{State}
-use Rattle.stepper.specs.Turns.{worker_at, hand_of, hand_at, next_at}
-use Rattle.stepper.specs.Effects.{got_of}
-use Rattle.stepper.specs.Workers.{finishes, followed, out_answer, arrived, counted, with_book, finished, at}
-use Rattle.books.specs.Walked.{walked_of, Outcome}
-use Rattle.stepper.specs.declared.worker.Worker.{Worker}
+use Rattle.machine.specs.States.{State}
+use Rattle.machine.specs.Turns.{worker_at, hand_of, hand_at, next_at}
+use Rattle.machine.specs.Effects.{got_of}
+use Rattle.machine.specs.Workers.{finishes, followed, flow_answer, arrived, counted, with_book, finished, at}
+use Rattle.books.specs.Walked.{walked_of, WalkOutcome}
+use Rattle.machine.specs.declared.worker.Worker.{Worker}
 use Rattle.laws.specs.Fits.{FitPlace, FitJob, Fit}
 use Rattle.walks.specs.Memory.{head_inside, memory_of}
 use Rattle.walks.specs.Walking.{hand_in, next_in}
@@ -30,12 +30,12 @@ use Rattle.walks.proofs.Effects.{effect}
 
 -- the same after any turn
 record Follows (n : ℕ) (v : Worker) (p : Page) (h : Hand) (x : Next) : Type 0 where
-  answer : (followed n v h x).answer ≡ out_answer (going n (record { place = v.place; book = v.book; page = p }) h x).out
+  answer : (followed n v h x).answer ≡ flow_answer (going n (record { place = v.place; book = v.book; page = p }) h x).out
   place : (followed n v h x).worker.place ≡ place_then (going n (record { place = v.place; book = v.book; page = p }) h x).out
   book : (followed n v h x).worker.book ≡ (going n (record { place = v.place; book = v.book; page = p }) h x).book
   page : written p (followed n v h x).entry ≡ (going n (record { place = v.place; book = v.book; page = p }) h x).page
 
-arrived_place : (v : Worker) (o : Out) → (arrived v o).place ≡ place_then o
+arrived_place : (v : Worker) (o : Flow) → (arrived v o).place ≡ place_then o
 arrived_place v (Continue p) = refl
 arrived_place v (Break a) = by_test (finishes a)
   where
@@ -43,7 +43,7 @@ arrived_place v (Break a) = by_test (finishes a)
     by_test true = refl
     by_test false = refl
 
-arrived_book : (v : Worker) (o : Out) → (arrived v o).book ≡ v.book
+pub arrived_book : (v : Worker) (o : Flow) → (arrived v o).book ≡ v.book
 arrived_book v (Continue p) = refl
 arrived_book v (Break a) = by_test (finishes a)
   where
@@ -51,16 +51,16 @@ arrived_book v (Break a) = by_test (finishes a)
     by_test true = refl
     by_test false = refl
 
-counted_book : (v : Worker) (k : Kind) → (counted v k).book ≡ v.book
+pub counted_book : (v : Worker) (k : Kind) → (counted v k).book ≡ v.book
 counted_book v kind.Vertex = refl
 counted_book v kind.Edge = refl
 
 follows : (n : ℕ) (v : Worker) (p : Page) (h : Hand) (x : Next) → Follows n v p h x
-follows n v p h (next.Out o) = record { answer = refl; place = arrived_place v o; book = arrived_book v o; page = refl }
+follows n v p h (next.Moved o) = record { answer = refl; place = arrived_place v o; book = arrived_book v o; page = refl }
 follows n v p h (next.Linked c r) = record { answer = refl; place = refl; book = counted_book v (change_kind c); page = refl }
 follows n v p h (next.Raised s t) = record { answer = refl; place = refl; book = refl; page = refl }
 follows n v p h (next.Walked k r) =
-    let o : Outcome = walked_of v.book k n r h in
+    let o : WalkOutcome = walked_of v.book k n r h in
     record { answer = refl; place = arrived_place (with_book v o.book) o.out; book = arrived_book (with_book v o.book) o.out; page = refl }
 
 -- the head of a job is a head of the sizes
@@ -82,8 +82,8 @@ module _ (s : State) (w : ℕ) (fit : Fit s w) where
   same_next p (at_field stage.First Del k r) f = refl
   same_next p (at_field stage.Clock d k r) f = refl
   same_next p (at_field (stage.Swap x) d k r) f = refl
-  same_next p (at_field stage.Again Ins k r) f = refl
-  same_next p (at_field stage.Again Del k r) f = refl
+  same_next p (at_field stage.Reread Ins k r) f = refl
+  same_next p (at_field stage.Reread Del k r) f = refl
 
   same_hand : (p : Place) → InSurvey p → hand_of s.sizes s.cells w (worker_at s w) p ≡ hand_in (memory_of s) (worker_at s w).book.t p
   same_hand p (at_raise v) = refl

@@ -11,10 +11,10 @@ use Rattle.places.specs.declared.place.Survey.TheVariants.{Snapshot, Reach}
 use Rattle.places.specs.declared.place.Job.{Job}
 use Rattle.places.specs.declared.place.Job.TheVariants as job
 use Rattle.places.specs.declared.place.Place.TheVariants.{WalkHead}
-use Rattle.places.specs.Outs.{Out}
+use Rattle.places.specs.Flows.{Flow}
 use Rattle.books.specs.declared.book.Book.{Book}
 use Rattle.books.specs.Books.{shown_of}
-use Rattle.books.specs.Serving.{open_pair, open_at, leg_at, leg_number, first_open, open_from, go_on as goes_on, serve_from, survey_done}
+use Rattle.books.specs.Serving.{open_pair, open_at, pair_numbered, pair_number, first_open, open_from, go_on as goes_on, serve_from, survey_done}
 use Rattle.walks.specs.Courses.{Course, Laws}
 use Rattle.walks.specs.Visible.{Found}
 use Rattle.walks.specs.Pages.{Page}
@@ -29,14 +29,14 @@ pub data Ended (c : Course) (n k : ℕ) (v : Survey) (b : Book) (p : Page) : Ans
   start_absent : (i : ℕ) → v ≡ Reach i → Found c b.t k (head.Vertex i) no_row → Ended c n k v b p VertexAbsent
 
 -- on to a walk, or an answer
-pub data KnowsOut (c : Course) (n k : ℕ) (v : Survey) (b : Book) (p : Page) : Out → Type 0 where
-  walks_on : (j : Job) → KnowsJob c n k v b p j → KnowsOut c n k v b p (Continue (WalkHead (record { survey = v; job = j })))
-  answers : (a : Answer) → Ended c n k v b p a → KnowsOut c n k v b p (Break a)
+pub data KnowsFlow (c : Course) (n k : ℕ) (v : Survey) (b : Book) (p : Page) : Flow → Type 0 where
+  walks_on : (j : Job) → KnowsJob c n k v b p j → KnowsFlow c n k v b p (Continue (WalkHead (record { survey = v; job = j })))
+  answers : (a : Answer) → Ended c n k v b p a → KnowsFlow c n k v b p (Break a)
 
 -- the first pair to walk from number x on
 pub data Opened (b : Book) (v : Survey) (n x : ℕ) : Option Job → Type 0 where
   none_open : ((z : ℕ) → x ≤ z → z < n * b.len → open_at b v n z ≡ false) → Opened b v n x None
-  first : (y : ℕ) → x ≤ y → y < n * b.len → ((z : ℕ) → x ≤ z → z < y → open_at b v n z ≡ false) → open_at b v n y ≡ true → Opened b v n x (Some (job.Pair (leg_at b n y)))
+  first : (y : ℕ) → x ≤ y → y < n * b.len → ((z : ℕ) → x ≤ z → z < y → open_at b v n z ≡ false) → open_at b v n y ≡ true → Opened b v n x (Some (job.Pair (pair_numbered b n y)))
 
 module _ (b : Book) (v : Survey) (n : ℕ) where
   skip : (x z y : ℕ) → open_at b v n x ≡ false → ((z : ℕ) → x + 1 ≤ z → z < y → open_at b v n z ≡ false) → x ≤ z → z < y → open_at b v n z ≡ false
@@ -53,16 +53,16 @@ module _ (b : Book) (v : Survey) (n : ℕ) where
       after q o (none_open f) = none_open (λ z l m. skip x z (n * b.len) q f l m)
       after q o (first y l m f g) = first y (omega arith) m (λ z i j. skip x z y q f i j) g
 
-      by_test : (a : Bool) → open_at b v n x ≡ a → Opened b v n (x + 1) (first_open b v n d (x + 1)) → Opened b v n x (cond a (Some (job.Pair (leg_at b n x))) (first_open b v n d (x + 1)))
+      by_test : (a : Bool) → open_at b v n x ≡ a → Opened b v n (x + 1) (first_open b v n d (x + 1)) → Opened b v n x (cond a (Some (job.Pair (pair_numbered b n x))) (first_open b v n d (x + 1)))
       by_test true q o = first x (omega arith) (omega arith) (λ z l m. absurd (omega arith)) q
       by_test false q o = after q _ o
 
   pub opened : (x : ℕ) → x ≤ n * b.len → Opened b v n x (open_from b v n x)
   opened x l = first_opened (n * b.len - x) x (omega arith)
 
-  -- the number of the leg of pair number y
-  pub leg_number_is : (y : ℕ) → leg_number n (leg_at b n y) ≡ y
-  leg_number_is y = div-add-mod' y n
+  -- the number of the pair of pair number y
+  pub pair_number_is : (y : ℕ) → pair_number n (pair_numbered b n y) ≡ y
+  pair_number_is y = div-add-mod' y n
 
 module _ (c : Course) (n : ℕ) (law : Laws c n) (k : ℕ) where
   -- keys that are shown, and differ, make a pair to walk
@@ -111,15 +111,15 @@ module _ (c : Course) (n : ℕ) (law : Laws c n) (k : ℕ) where
   ended_with (Reach i) b p s = part_shown i refl s
 
   -- on from pair number x
-  pub serve_knows : (v : Survey) (b : Book) (p : Page) (x : ℕ) → x ≤ n * b.len → Serving c n k v (draft_of b p) x → KnowsOut c n k v b p (serve_from b v n x)
+  pub serve_knows : (v : Survey) (b : Book) (p : Page) (x : ℕ) → x ≤ n * b.len → Serving c n k v (draft_of b p) x → KnowsFlow c n k v b p (serve_from b v n x)
   serve_knows v b p x l s = by_first _ (opened b v n x l)
     where
       on_to : (y : ℕ) → ((z : ℕ) → x ≤ z → z < y → z < n * b.len → open_at b v n z ≡ false) → Serving c n k v (draft_of b p) y
       on_to y f = serving_on v (draft_of b p) x y s (λ z a i m. served_none v (draft_of b p) x _ _ s (no_edge v b p x _ _ s (f z a i m)))
 
-      turning : (y : ℕ) → y < n * b.len → ((z : ℕ) → x ≤ z → z < y → open_at b v n z ≡ false) → open_at b v n y ≡ true → KnowsJob c n k v b p (job.Pair (leg_at b n y))
-      turning y m f g = rw (leg_number_is b v n y) (refl, record { sofar = on_to y (λ z a i o. f z a i); within = m; good = g })
+      turning : (y : ℕ) → y < n * b.len → ((z : ℕ) → x ≤ z → z < y → open_at b v n z ≡ false) → open_at b v n y ≡ true → KnowsJob c n k v b p (job.Pair (pair_numbered b n y))
+      turning y m f g = rw (pair_number_is b v n y) (refl, record { sofar = on_to y (λ z a i o. f z a i); within = m; good = g })
 
-      by_first : (o : Option Job) → Opened b v n x o → KnowsOut c n k v b p (goes_on v o)
+      by_first : (o : Option Job) → Opened b v n x o → KnowsFlow c n k v b p (goes_on v o)
       by_first o (none_open f) = answers (survey_done v) (ended_with v b p (on_to (n * b.len) (λ z a i m. f z a m)))
-      by_first o (first y a m f g) = walks_on (job.Pair (leg_at b n y)) (turning y m f g)
+      by_first o (first y a m f g) = walks_on (job.Pair (pair_numbered b n y)) (turning y m f g)

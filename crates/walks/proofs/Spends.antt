@@ -7,46 +7,46 @@ use Rattle.layout.specs.declared.names.Head.TheVariants as head
 use Rattle.places.specs.Touches.{job_head}
 use Rattle.places.specs.declared.place.Survey.{Survey}
 use Rattle.places.specs.declared.place.Survey.TheVariants.{Snapshot, Reach}
-use Rattle.places.specs.declared.place.Leg.{Leg}
+use Rattle.places.specs.declared.place.ServedPair.{ServedPair}
 use Rattle.places.specs.declared.place.Job.{Job}
 use Rattle.places.specs.declared.place.Job.TheVariants as job
 use Rattle.places.specs.declared.place.Hand.{Hand}
 use Rattle.books.specs.declared.book.Book.{Book}
 use Rattle.books.specs.declared.walked.Entry.TheVariants as entry
 use Rattle.books.specs.Books.{shown_of, row_of, is_seen, with_row, joined}
-use Rattle.books.specs.Serving.{leg_number, open_pair, serve_from}
-use Rattle.books.specs.Walked.{Outcome, walk_of, walked_joined, key_walked, start_walked, joins, pair_walked, resolved, walked_at}
-use Rattle.walks.specs.Courses.{Course, Linked, Laws}
+use Rattle.books.specs.Serving.{pair_number, open_pair, serve_from}
+use Rattle.books.specs.Walked.{WalkOutcome, walk_of, walked_joined, key_walked, start_walked, joins, pair_walked, resolved, walked_at}
+use Rattle.walks.specs.Courses.{Course, CourseLinked, Laws}
 use Rattle.walks.specs.Visible.{Found}
 use Rattle.walks.specs.Pages.{Page, with_key, with_pair, written}
 use Rattle.walks.specs.Budgets.{sum_below, links_over}
 use Rattle.walks.proofs.Times.{linked_some}
 use Rattle.walks.proofs.Drafts.{Draft, draft_of, walk_in, join_in, put_here, Kept, draft_walked, kept_walked, draft_joined}
-use Rattle.walks.proofs.Known.{Serving, Turning, Rising, Leaving, IsLeg, KnowsJob}
+use Rattle.walks.proofs.Known.{Serving, Turning, Rising, Leaving, IsServedPair, KnowsJob}
 use Rattle.walks.proofs.Counts.{shown_fewer}
 use Rattle.walks.proofs.Resolves.{found_stays, to_small}
 use Rattle.walks.proofs.Starts.{draft_is, rising}
 use Rattle.walks.proofs.Jobs.{HandOf, HandFits, target_serves}
 use Rattle.walks.proofs.Sums.{sum_le}
-use Rattle.walks.proofs.Costs.{Once, Extra, key_cost, keys_cost, serving, base, SpentOut, before_walk, before_answer, start_fits, serve_spent, more_key, more_pair, join_serving, once_join}
+use Rattle.walks.proofs.Costs.{Once, Extra, key_cost, keys_cost, serving, base, SpentFlow, before_walk, before_answer, start_fits, serve_spent, more_key, more_pair, join_serving, once_join}
 
 -- what is known of an outcome, after m turns
-abbrev pub Spends : Course → ℕ → ℕ → ℕ → Survey → Page → Outcome → Type 0
-Spends c n k m v p o = SpentOut c n k m v (draft_of o.book (written p o.entry)) o.out
+abbrev pub Spends : Course → ℕ → ℕ → ℕ → Survey → Page → WalkOutcome → Type 0
+Spends c n k m v p o = SpentFlow c n k m v (draft_of o.book (written p o.entry)) o.out
 
 module _ (c : Course) (n : ℕ) (law : Laws c n) (some_key : 0 < n) (few : n ≤ 64) (k m : ℕ) where
   -- on from the pair after the one in turn, where no key joins
-  next_spent : (v : Survey) (b : Book) (p q : Page) (x : ℕ) → Once n v (draft_of b p) → x < n * b.len → m ≤ serving c n k (draft_of b p) (x + 1) → SpentOut c n k m v (draft_of b q) (serve_from b v n (x + 1))
+  next_spent : (v : Survey) (b : Book) (p q : Page) (x : ℕ) → Once n v (draft_of b p) → x < n * b.len → m ≤ serving c n k (draft_of b p) (x + 1) → SpentFlow c n k m v (draft_of b q) (serve_from b v n (x + 1))
   next_spent Snapshot b p q x o l u = serve_spent c n law some_key k m Snapshot b q (x + 1) o (omega arith) u
   next_spent (Reach i) b p q x o l u = serve_spent c n law some_key k m (Reach i) b q (x + 1) o (omega arith) u
 
-  module _ (b : Book) (p : Page) (kept : Kept b p) (l : Leg) (h : Hand) (small : l.to < n) (within : leg_number n l < n * b.len) (target : 0 < h.target)
-      (u : m ≤ serving c n k (draft_of b p) (leg_number n l + 1)) where
+  module _ (b : Book) (p : Page) (kept : Kept b p) (l : ServedPair) (h : Hand) (small : l.to < n) (within : pair_number n l < n * b.len) (target : 0 < h.target)
+      (u : m ≤ serving c n k (draft_of b p) (pair_number n l + 1)) where
     abbrev d : Draft
     d = draft_of b p
 
     abbrev x : ℕ
-    x = leg_number n l
+    x = pair_number n l
 
     abbrev pair_page : Page
     pair_page = with_pair p l.from l.to h.weight
@@ -64,7 +64,7 @@ module _ (c : Course) (n : ℕ) (law : Laws c n) (some_key : 0 < n) (few : n ≤
       length_more : (joined b l.to).len ≡ b.len + 1
       length_more = ap (λ (a : Draft). a.len) joined_is
 
-      join_spent : SpentOut c n k m (Reach i) (draft_of (joined b l.to) joined_page) (serve_from (joined b l.to) (Reach i) n (x + 1))
+      join_spent : SpentFlow c n k m (Reach i) (draft_of (joined b l.to) joined_page) (serve_from (joined b l.to) (Reach i) n (x + 1))
       join_spent =
           serve_spent c n law some_key k m (Reach i) (joined b l.to) joined_page (x + 1)
           (subst (λ a. Once n (Reach i) a) (sym joined_is) (once_join c n law some_key i (draft_of b pair_page) l.to small new some o))
@@ -123,7 +123,7 @@ module _ (c : Course) (n : ℕ) (law : Laws c n) (some_key : 0 < n) (few : n ≤
         all_keys : n ≡ i + 1 → sum_below (i + 1) (key_cost c n k) ≤ keys_cost c n k (draft_of book page)
         all_keys w = rw (sym w) (sum_le n (key_cost c n k) (λ y. cond ((draft_of book page).seen y) (key_cost c n k y) 0) (λ y a. rw ((risen.seen y (omega arith)).0) (omega arith)))
 
-        by_test : (a : Bool) → ltb (i + 1) n ≡ a → SpentOut c n k m v (draft_of book page) (cond a (walk_of v (job.Key (i + 1))) (serve_from book v n 0))
+        by_test : (a : Bool) → ltb (i + 1) n ≡ a → SpentFlow c n k m v (draft_of book page) (cond a (walk_of v (job.Key (i + 1))) (serve_from book v n 0))
         by_test true w = before_walk (job.Key (i + 1)) tt more
         by_test false w =
             let full : n ≡ i + 1 = grind (arith, nat_tests) in
@@ -178,27 +178,27 @@ module _ (c : Course) (n : ℕ) (law : Laws c n) (some_key : 0 < n) (few : n ≤
     walked_once Snapshot j r o = o
     walked_once (Reach y) j r o = o
 
-    module _ (l : Leg) (leg : IsLeg c n b l) where
+    module _ (l : ServedPair) (pair : IsServedPair c n b l) where
       abbrev number : ℕ
-      number = leg_number n l
+      number = pair_number n l
 
       small : l.to < n
-      small = to_small c n law some_key few k b p kept l leg
+      small = to_small c n law some_key few k b p kept l pair
 
       from_is : l.from ≡ e.queue (number / n)
-      from_is = ap (λ (a : Leg). a.from) leg
+      from_is = ap (λ (a : ServedPair). a.from) pair
 
       to_is : l.to ≡ number % n
-      to_is = ap (λ (a : Leg). a.to) leg
+      to_is = ap (λ (a : ServedPair). a.to) pair
 
       -- the pair in turn costs 8 turns, and one for each row of its head
       pub pair_more : (v : Survey) → Turning c n k v b p number → serving c n k e number + (8 + links_over c k (head.Edge l.from l.to)) ≤ serving c n k e (number + 1)
       pair_more v turn = more_pair c n law some_key k e number l.from l.to from_is to_is (λ q. open_apart v _ _ turn.good (sym from_is ∙ q ∙ to_is))
 
-      linked_row : (r : ℕ) → 0 < r → Found c b.t k (head.Edge l.from l.to) r → Linked c k (head.Edge l.from l.to) r
+      linked_row : (r : ℕ) → 0 < r → Found c b.t k (head.Edge l.from l.to) r → CourseLinked c k (head.Edge l.from l.to) r
       linked_row r z f = (found_stays c b.t k (head.Edge l.from l.to) r z f k (omega arith)).linked
 
-      target_some : (r : ℕ) (h : Hand) → Linked c k (head.Edge l.from l.to) r → HandOf (c.at k) r h → 0 < h.target
+      target_some : (r : ℕ) (h : Hand) → CourseLinked c k (head.Edge l.from l.to) r → HandOf (c.at k) r h → 0 < h.target
       target_some r h w o = omega (arith, o.target, law.target k l.from l.to r w, linked_some (law.binds k l.from l.to r w).target)
 
       pair_spent : (v : Survey) (r : ℕ) (h : Hand) → Turning c n k v b p number → Found c b.t k (head.Edge l.from l.to) r → (0 < r → HandOf (c.at k) r h) → Once n v e →
@@ -244,6 +244,6 @@ module _ (c : Course) (n : ℕ) (law : Laws c n) (some_key : 0 < n) (few : n ≤
         m ≤ base c n k e j + (8 + links_over c k (job_head j)) → Spends c n k m v p (walked_at b v j n r h)
     job_spent v (job.Key i) r h a f o x u = key_spent v i r a f u
     job_spent v (job.Start i) r h a f o x u = start_spent v i r a u
-    job_spent v (job.Pair l) r h (leg, turn) f o x u = pair_spent l leg v r h turn f o x u
-    job_spent v (job.Target l i) r h (leg, turn, lv, q) f o x u =
-        target_spent l leg v i r h turn lv q o x (target_serves c n law some_key few k b p kept v l i r (leg, turn, lv, q) f) u
+    job_spent v (job.Pair l) r h (pair, turn) f o x u = pair_spent l pair v r h turn f o x u
+    job_spent v (job.Target l i) r h (pair, turn, lv, q) f o x u =
+        target_spent l pair v i r h turn lv q o x (target_serves c n law some_key few k b p kept v l i r (pair, turn, lv, q) f) u

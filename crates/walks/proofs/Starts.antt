@@ -74,7 +74,7 @@ module _ (c : Course) (n : ℕ) (law : Laws c n) (some_key : 0 < n) (few : n ≤
     all_keys e h = record {
       rows = λ j a s. rw (sym ((h.seen j a).1)) (h.rows j a);
       joined = λ j z. elim (cases_lt j n) [
-        | inl a ↦ record { small = a; seen = (h.seen j a).0; row = (h.seen j a).1; place = j; within = omega (arith, h.len); queued = h.queued j a; reached = tt }
+        | inl a ↦ record { small = a; seen = (h.seen j a).0; row = (h.seen j a).1; nth = j; within = omega (arith, h.len); queued = h.queued j a; reached = tt }
         | inr a ↦ absurd (omega (arith, h.rest j a))
       ];
       queued = λ m a. (let l : m < n = omega (arith, h.len) in rw (h.queued m l) l);
@@ -89,7 +89,7 @@ module _ (c : Course) (n : ℕ) (law : Laws c n) (some_key : 0 < n) (few : n ≤
       rows = at_puts (λ j y w. j < n → y ≡ true → Found c b.t k (head.Vertex j) w) d.seen d.row i true r (λ a e. f) (λ j e a q. absurd (grind (arith, h.unseen j)));
       joined =
           at_put (λ j w. 0 < w → Joined c n k (Reach i) draft j) d.key i (put_at d.row i r i)
-          (λ o. record { small = small; seen = put_here d.seen i true; row = put_here d.key i (put_at d.row i r i); place = d.len; within = omega arith; queued = put_here d.queue d.len i; reached = stay })
+          (λ o. record { small = small; seen = put_here d.seen i true; row = put_here d.key i (put_at d.row i r i); nth = d.len; within = omega arith; queued = put_here d.queue d.len i; reached = stay })
           (λ j e o. absurd (omega (arith, h.keys j)));
       queued = at_put (λ m q. m < d.len + 1 → q < n) d.queue d.len i (λ a. small) (λ m e a. absurd (omega (arith, h.len)));
       mode = (

@@ -1,6 +1,7 @@
 -- Sums over the numbers below another.
-use Rattle.std.proofs.Common.{◌≡◌, ℕ, zero, suc, ◌+◌, ◌-◌, ◌*◌, ◌/◌, ◌%◌, ◌<◌, ◌≤◌, ◌≢◌, ◌⊎◌, Bool, true, false, cond, eqb, refl, sym, ap, ◌∙◌, subst₂, inl, inr, arith, mul_comm}
+use Rattle.std.proofs.Common.{◌≡◌, ℕ, zero, suc, ◌+◌, ◌-◌, ◌*◌, ◌/◌, ◌%◌, ◌<◌, ◌≤◌, ◌≢◌, ◌⊎◌, Bool, true, false, cond, eqb, refl, sym, ap, ◌∙◌, subst, subst₂, inl, inr, ⊎_elim, arith, mul_comm}
 use Rattle.std.proofs.lemmas.Nat.{div-mul-add, mod-mul-add}
+use Rattle.std.proofs.lemmas.Bool.{cases_eq}
 use Rattle.std.proofs.lemmas.Bool.Decides.{nat_tests}
 use Rattle.walks.specs.Budgets.{sum_below}
 use Rattle.walks.proofs.Times.{ordered}
@@ -101,3 +102,19 @@ sum_bump (suc n) z f g h u = by_place (ordered n z) (sum_bump n z f g h u)
     by_place (inl a) ih = omega (arith, others (λ q. omega arith), h n (λ q. omega arith))
     by_place (inr (inl a)) ih = let e : g n ≤ suc (f n) = rw a u in omega (arith, others (λ q. omega arith))
     by_place (inr (inr a)) ih = omega (arith, ih, h n (λ q. omega arith))
+
+-- sums with the same terms
+pub sum_same : (n : ℕ) (f g : ℕ → ℕ) → ((y : ℕ) → y < n → g y ≡ f y) → sum_below n g ≡ sum_below n f
+unfolding sum_below
+sum_same zero f g h = refl
+sum_same (suc n) f g h = omega (arith, sum_same n f g (λ y l. h y (omega arith)), h n (omega arith))
+
+-- with one term more by one
+pub sum_next : (n z : ℕ) (f g : ℕ → ℕ) → z < n → ((y : ℕ) → y < n → y ≢ z → g y ≡ f y) → g z ≡ suc (f z) → sum_below n g ≡ suc (sum_below n f)
+unfolding sum_below
+sum_next zero z f g l h u = absurd (omega arith)
+sum_next (suc n) z f g l h u =
+    ⊎_elim
+    (λ (e : n ≡ z). let s : sum_below n g ≡ sum_below n f = sum_same n f g (λ y m. h y (omega arith) (λ q. omega arith)) in let v : g n ≡ suc (f n) = subst (λ x. g x ≡ suc (f x)) (sym e) u in omega arith)
+    (λ (d : ¬ (n ≡ z)). let m : z < n = (let q : n ≢ z = d in omega arith) in omega (arith, sum_next n z f g m (λ y a. h y (omega arith)) u, h n (omega arith) d))
+    (cases_eq n z)

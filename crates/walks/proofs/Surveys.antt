@@ -14,7 +14,7 @@ use Rattle.places.specs.declared.place.Hand.{Hand}
 use Rattle.places.specs.declared.place.Place.{Place}
 use Rattle.places.specs.declared.place.Place.TheVariants as place
 use Rattle.places.specs.Moved.{Next}
-use Rattle.places.specs.Outs.{Out}
+use Rattle.places.specs.Flows.{Flow}
 use Rattle.places.specs.Walks.{first_job}
 use Rattle.places.specs.Private.{job_edge, edge_row}
 use Rattle.places.specs.Nexts.{raise_done}
@@ -31,7 +31,7 @@ use Rattle.walks.proofs.Walking.{Knows, at_head, at_ins, at_older, at_del, Knows
 use Rattle.walks.proofs.Drafts.{draft_of, Kept, blank_key, kept_blank}
 use Rattle.walks.proofs.Known.{KnowsJob}
 use Rattle.walks.proofs.Later.{serving_later, job_later}
-use Rattle.walks.proofs.Serves.{Ended, all_shown, part_shown, start_absent, KnowsOut, walks_on, answers}
+use Rattle.walks.proofs.Serves.{Ended, all_shown, part_shown, start_absent, KnowsFlow, walks_on, answers}
 use Rattle.walks.proofs.Jobs.{HandOf, HandFits, found_knows}
 
 abbrev pub walk_for : Survey → Job → Walk
@@ -48,7 +48,7 @@ pub data Answered (c : Course) (n : ℕ) (v : Survey) (b k : ℕ) (book : Book) 
   clock_spent : Answered c n v b k book page ClockSpent
 
 -- after a turn
-abbrev pub KnowsAfter : Course → ℕ → Survey → ℕ → ℕ → Book → Page → Out → Type 0
+abbrev pub KnowsAfter : Course → ℕ → Survey → ℕ → ℕ → Book → Page → Flow → Type 0
 KnowsAfter c n v b k book page (Continue p) = KnowsSurvey c n v b k (record { place = p; book = book; page = page })
 KnowsAfter c n v b k book page (Break a) = Answered c n v b k book page a
 
@@ -137,7 +137,7 @@ module _ (c : Course) (n : ℕ) (law : Laws c n) (some_key : 0 < n) (few : n ≤
     hand_fits (job.Target l e) q r w o = hand_of (c.at k) s.book.t s.place e (target_row c s.book.t k (walk_for v j) e s.place (λ x. rw q refl) knows) (w.2).row
 
     -- what follows when a walk has gone into the book and the page
-    out_knows : (book : Book) (page : Page) (o : Out) → book.t ≡ s.book.t → Kept book page → KnowsOut c n k v book page o → KnowsAfter c n v began (suc k) book page o
+    out_knows : (book : Book) (page : Page) (o : Flow) → book.t ≡ s.book.t → Kept book page → KnowsFlow c n k v book page o → KnowsAfter c n v began (suc k) book page o
     out_knows book page o e h (walks_on i w) = in_walk i at_head (job_later c n law k (suc k) (omega arith) v book page i w) h (rw e (later (omega arith) raised))
     out_knows book page o e h (answers x w) = with_page (ended_later k (suc k) book page x (omega arith) w) h (rw e (later (omega arith) raised))
 
@@ -170,7 +170,7 @@ module _ (c : Course) (n : ℕ) (law : Laws c n) (top : ℕ) (v : Survey) (began
       by_turn (inr (e, d)) = rw e at (turn k (at k) d a)
 
   -- what the worker knows at each time
-  knows : (k : ℕ) → began ≤ k → k ≤ now → KnowsSurvey c n v began k (at k)
+  pub knows : (k : ℕ) → began ≤ k → k ≤ now → KnowsSurvey c n v began k (at k)
   knows k l = le_ind (λ m. m ≤ now → KnowsSurvey c n v began m (at m)) (λ z. at_raise run.starts (omega arith)) (λ m a g z. step m a (omega arith) (g (omega arith))) k l
 
   pub answered : began ≤ now → (a : Answer) → TurnDone top (c.at now) (c.at (suc now)) (at now) → (turn_of n top (c.at now) (at now)).out ≡ Break a →

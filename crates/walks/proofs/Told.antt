@@ -5,10 +5,10 @@ use Rattle.places.specs.declared.mark.Mark as places
 use Rattle.places.specs.declared.mark.Mark.TheVariants.{NotEnded, Pending, Stamp}
 use Rattle.questions.specs.Graph.{Graph}
 use Rattle.order.specs.Marks.{Marks}
-use Rattle.order.specs.Raises.{VertexVisible, EdgeVisible as EdgeTold, Joins, ShowsVisible}
-use Rattle.walks.specs.Courses.{Course, Linked, Laws}
+use Rattle.order.specs.Raises.{VertexVisibleByMarks, EdgeVisibleByMarks, Joins, ShowsVisible}
+use Rattle.walks.specs.Courses.{Course, CourseLinked, Laws}
 use Rattle.walks.specs.Visible.{Visible, EdgeVisible, Stands}
-use Rattle.walks.specs.Told.{TellsMark, MarksTell, MarksShow}
+use Rattle.walks.specs.Told.{TellsMark, MarksTellCourse, MarksShow}
 
 -- the number of a mark and its stamp are at most t together
 pub record StampUpto (v : places.Mark) (t : ℕ) : Type 0 where
@@ -46,11 +46,11 @@ above_of first top t (Stamp y) x b u (inr e, l) f = absurd (omega (arith, f y re
 above_of first top t NotEnded x b u l f = omega arith
 above_of first top t Pending x b u l f = omega arith
 
-module _ (c : Course) (n : ℕ) (law : Laws c n) (k top : ℕ) (m : Marks) (tell : MarksTell c k top m) (t : ℕ) (since : (c.at 0).clock ≤ t) (low : t ≤ top) where
+module _ (c : Course) (n : ℕ) (law : Laws c n) (k top : ℕ) (m : Marks) (tell : MarksTellCourse c k top m) (t : ℕ) (since : (c.at 0).clock ≤ t) (low : t ≤ top) where
   abbrev first : ℕ
   first = (c.at 0).clock
 
-  vertex_visible : (r : ℕ) → VertexVisible m t r → Visible c t k (head.Vertex (m.key_of r)) r
+  vertex_visible : (r : ℕ) → VertexVisibleByMarks m t r → Visible c t k (head.Vertex (m.key_of r)) r
   vertex_visible r v =
       let w = tell.vertex_born r v.row (omega (arith, v.born)) in
       let b = stamp_of first top t _ _ since low (tell.vertex_ins (m.key_of r) r w) v.born in
@@ -62,7 +62,7 @@ module _ (c : Course) (n : ℕ) (law : Laws c n) (k top : ℕ) (m : Marks) (tell
         late = λ x e. stamp_high first top t _ _ x since (tell.vertex_del (m.key_of r) r w) e v.ends;
       }
 
-  vertex_told : (i r : ℕ) → Visible c t k (head.Vertex i) r → VertexVisible m t r × (m.key_of r ≡ i)
+  vertex_told : (i r : ℕ) → Visible c t k (head.Vertex i) r → VertexVisibleByMarks m t r × (m.key_of r ≡ i)
   vertex_told i r v =
       let w = v.linked in
       let (row, key) = tell.vertex_row i r w in (
@@ -74,9 +74,9 @@ module _ (c : Course) (n : ℕ) (law : Laws c n) (k top : ℕ) (m : Marks) (tell
         key,
       )
 
-  edge_visible : (i j w e : ℕ) → EdgeTold m t e → Joins m e i j w → EdgeVisible c t k i j e × (c.weight e ≡ w)
+  edge_visible : (i j w e : ℕ) → EdgeVisibleByMarks m t e → Joins m e i j w → EdgeVisible c t k i j e × (c.weight e ≡ w)
   edge_visible i j w e v o =
-      let l : Linked c k (head.Edge i j) e = rw (o.from, o.to) at (tell.edge_born e v.row (omega (arith, v.born))) in
+      let l : CourseLinked c k (head.Edge i j) e = rw (o.from, o.to) at (tell.edge_born e v.row (omega (arith, v.born))) in
       let b = stamp_of first top t _ _ since low (tell.edge_ins i j e l) v.born in
       let source : m.source e ≡ c.source e = tell.source i j e l in
       let target : m.target e ≡ c.target e = tell.target i j e l in (
@@ -94,7 +94,7 @@ module _ (c : Course) (n : ℕ) (law : Laws c n) (k top : ℕ) (m : Marks) (tell
         sym (tell.weight i j e l) ∙ o.weight,
       )
 
-  edge_told : (i j e : ℕ) → EdgeVisible c t k i j e → EdgeTold m t e × Joins m e i j (c.weight e)
+  edge_told : (i j e : ℕ) → EdgeVisible c t k i j e → EdgeVisibleByMarks m t e × Joins m e i j (c.weight e)
   edge_told i j e v =
       let l = v.row.linked in
       let source : m.source e ≡ c.source e = tell.source i j e l in

@@ -11,13 +11,13 @@ use Rattle.places.specs.declared.place.Hand.{Hand}
 use Rattle.places.specs.declared.place.Place.{Place}
 use Rattle.places.specs.declared.place.Place.TheVariants as place
 use Rattle.places.specs.Moved.{Next}
-use Rattle.places.specs.Outs.{Out}
+use Rattle.places.specs.Flows.{Flow}
 use Rattle.places.specs.Walks.{first_job}
 use Rattle.places.specs.Private.{edge_row}
 use Rattle.places.specs.Nexts.{raise_done}
 use Rattle.books.specs.declared.book.Book.{Book}
 use Rattle.books.specs.Books.{blank}
-use Rattle.books.specs.Serving.{leg_number}
+use Rattle.books.specs.Serving.{pair_number}
 use Rattle.walks.specs.Courses.{Course, Laws}
 use Rattle.walks.specs.Walking.{hand_in, next_in}
 use Rattle.walks.specs.Pages.{Page, clear}
@@ -28,12 +28,12 @@ use Rattle.walks.proofs.Walking.{Knows, at_head, KnowsNext, goes_on, has_found, 
 use Rattle.walks.proofs.Drafts.{Draft, draft_of, walk_in, Kept}
 use Rattle.walks.proofs.Known.{KnowsJob}
 use Rattle.walks.proofs.Later.{job_later}
-use Rattle.walks.proofs.Serves.{KnowsOut, walks_on, answers}
+use Rattle.walks.proofs.Serves.{KnowsFlow, walks_on, answers}
 use Rattle.walks.proofs.Resolves.{to_small}
 use Rattle.walks.proofs.Jobs.{found_knows}
 use Rattle.walks.proofs.Surveys.{walk_for, KnowsSurvey, at_raise, in_walk, hand_fits, now, KnowsGoing, survey_turn}
 use Rattle.walks.proofs.Paces.{SpentPlace, SpentNext, at_place, at_end, place_later, turn_spends, place_fits}
-use Rattle.walks.proofs.Costs.{Extra, key_cost, total, base, SpentOut, before_walk, before_answer, base_mono, total_mono, serving_total, keys_fit, start_fits, more_key}
+use Rattle.walks.proofs.Costs.{Extra, key_cost, total, base, SpentFlow, before_walk, before_answer, base_mono, total_mono, serving_total, keys_fit, start_fits, more_key}
 use Rattle.walks.proofs.Spends.{walked_once, pair_more, job_spent}
 
 -- at a place of the call that began at b, at time k, after m turns
@@ -43,17 +43,17 @@ pub data SpentSurvey (c : Course) (n : ℕ) (v : Survey) (b k m : ℕ) (s : Surv
       Extra n v (draft_of s.book s.page) j → SpentPlace c k m (base c n k (draft_of s.book s.page) j) s.place → SpentSurvey c n v b k m s
 
 -- after a turn
-abbrev pub SpentAfter : Course → ℕ → Survey → ℕ → ℕ → ℕ → Book → Page → Out → Type 0
+abbrev pub SpentAfter : Course → ℕ → Survey → ℕ → ℕ → ℕ → Book → Page → Flow → Type 0
 SpentAfter c n v b k m book page (Continue p) = SpentSurvey c n v b k m (record { place = p; book = book; page = page })
 SpentAfter c n v b k m book page (Break a) = m ≤ total c n k
 
 abbrev pub SpentGoing : Course → ℕ → Survey → ℕ → ℕ → ℕ → Going → Type 0
 SpentGoing c n v b k m g = SpentAfter c n v b k m g.book g.page g.out
 
-spent_walk : (c : Course) (n k m : ℕ) (v : Survey) (d : Draft) (w : Walk) → SpentOut c n k m v d (Continue (place.WalkHead w)) → Extra n v d w.job × (m ≤ base c n k d w.job)
+spent_walk : (c : Course) (n k m : ℕ) (v : Survey) (d : Draft) (w : Walk) → SpentFlow c n k m v d (Continue (place.WalkHead w)) → Extra n v d w.job × (m ≤ base c n k d w.job)
 spent_walk c n k m v d w (before_walk j x u) = (x, u)
 
-spent_answer : (c : Course) (n k m : ℕ) (v : Survey) (d : Draft) (a : Answer) → SpentOut c n k m v d (Break a) → m ≤ total c n k
+spent_answer : (c : Course) (n k m : ℕ) (v : Survey) (d : Draft) (a : Answer) → SpentFlow c n k m v d (Break a) → m ≤ total c n k
 spent_answer c n k m v d a (before_answer b u) = u
 
 first_extra : (n : ℕ) (v : Survey) (d : Draft) → Extra n v d (first_job v)
@@ -92,7 +92,7 @@ module _ (c : Course) (n : ℕ) (law : Laws c n) (some_key : 0 < n) (few : n ≤
     hand = hand_in (c.at k) s.book.t s.place
 
     -- a walk goes on, or an answer
-    out_spent : (book : Book) (page : Page) (o : Out) → book.t ≡ s.book.t → Kept book page → KnowsOut c n k v book page o → SpentOut c n k (suc m) v (draft_of book page) o →
+    out_spent : (book : Book) (page : Page) (o : Flow) → book.t ≡ s.book.t → Kept book page → KnowsFlow c n k v book page o → SpentFlow c n k (suc m) v (draft_of book page) o →
         SpentAfter c n v began (suc k) (suc m) book page o
     out_spent book page o e h (walks_on i w) z =
         let (x, u) = spent_walk c n k (suc m) v (draft_of book page) (walk_for v i) z in
@@ -123,13 +123,13 @@ module _ (c : Course) (n : ℕ) (law : Laws c n) (some_key : 0 < n) (few : n ≤
   unfolding sum_below key_cost
   job_fits k b p kept (job.Key i) (e, l, h) x = omega (arith, keys_fit c n law some_key k (suc i) l)
   job_fits k b p kept (job.Start i) (e, l, h) x = omega (arith, start_fits c n law some_key k i l)
-  job_fits k b p kept (job.Pair l) (leg, turn) x =
-      omega (arith, pair_more c n law some_key few k 0 b p kept l leg v turn, serving_total c n law some_key k v (draft_of b p) (leg_number n l + 1) (omega (arith, turn.within)) x)
-  job_fits k b p kept (job.Target l e) (leg, turn, lv, q) x =
+  job_fits k b p kept (job.Pair l) (pair, turn) x =
+      omega (arith, pair_more c n law some_key few k 0 b p kept l pair v turn, serving_total c n law some_key k v (draft_of b p) (pair_number n l + 1) (omega (arith, turn.within)) x)
+  job_fits k b p kept (job.Target l e) (pair, turn, lv, q) x =
       omega (
         arith,
-        more_key c n law some_key k (draft_of b p) l.to 0 (leg_number n l + 1) (to_small c n law some_key few k b p kept l leg) q,
-        serving_total c n law some_key k v (walk_in (draft_of b p) l.to 0) (leg_number n l + 1) (omega (arith, turn.within)) (walked_once c n law some_key few k 0 b p kept v l.to 0 x),
+        more_key c n law some_key k (draft_of b p) l.to 0 (pair_number n l + 1) (to_small c n law some_key few k b p kept l pair) q,
+        serving_total c n law some_key k v (walk_in (draft_of b p) l.to 0) (pair_number n l + 1) (omega (arith, turn.within)) (walked_once c n law some_key few k 0 b p kept v l.to 0 x),
       )
 
   pub survey_fits : (k m : ℕ) (s : Surveyor) → SpentSurvey c n v began k m s → m ≤ total c n k

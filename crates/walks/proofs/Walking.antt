@@ -24,7 +24,7 @@ use Rattle.places.specs.Touches.{touch_of, settles, head_kind, job_head}
 use Rattle.places.specs.Private.{job_edge, edge_row}
 use Rattle.places.specs.Walks.{walked_head, walked_ins, walked_del}
 use Rattle.walks.specs.Memory.{mark_in}
-use Rattle.walks.specs.Courses.{Course, Stamped, Linked, Laws}
+use Rattle.walks.specs.Courses.{Course, CourseStamped, CourseLinked, Laws}
 use Rattle.walks.specs.Visible.{StaysVisible, Found}
 use Rattle.walks.specs.Walking.{hand_in, next_in, Done, Walking, WalksFind}
 use Rattle.walks.proofs.Times.{linked_later, linked_some, clock_mono, begun_later, stamped_later, ins_filled, head_linked}
@@ -39,23 +39,23 @@ module _ (c : Course) (t : ℕ) (w : Walk) where
   KnowsStage k f r stage.First = Unit {0}
   KnowsStage k f r stage.Clock = mark_in (c.at k) (head_kind (head_of w)) f r ≢ NotEnded
   KnowsStage k f r (stage.Swap x) = (mark_in (c.at k) (head_kind (head_of w)) f r ≢ NotEnded) × (mark_of x ≡ Stamp x)
-  KnowsStage k f r stage.Again = Stamped c k (head_kind (head_of w)) f r
+  KnowsStage k f r stage.Reread = CourseStamped c k (head_kind (head_of w)) f r
 
   -- at a place of the walk w, at time k
   pub data Knows (k : ℕ) : Place → Type 0 where
     at_head : Knows k (place.WalkHead w)
-    at_ins : (st : Stage) (r : ℕ) → Chain c t k (head_of w) r → Linked c k (head_of w) r → KnowsStage k Ins r st → Knows k (place.Settle st (purpose.Walk Ins w r))
-    at_older : (r : ℕ) → Chain c t k (head_of w) r → Linked c k (head_of w) r → Stamped c k (head_kind (head_of w)) Ins r → Knows k (place.WalkOlder w r)
-    at_del : (st : Stage) (r : ℕ) → Chain c t k (head_of w) r → Linked c k (head_of w) r → Below c t k (head_kind (head_of w)) r → KnowsStage k Del r st →
+    at_ins : (st : Stage) (r : ℕ) → Chain c t k (head_of w) r → CourseLinked c k (head_of w) r → KnowsStage k Ins r st → Knows k (place.Settle st (purpose.Walk Ins w r))
+    at_older : (r : ℕ) → Chain c t k (head_of w) r → CourseLinked c k (head_of w) r → CourseStamped c k (head_kind (head_of w)) Ins r → Knows k (place.WalkOlder w r)
+    at_del : (st : Stage) (r : ℕ) → Chain c t k (head_of w) r → CourseLinked c k (head_of w) r → Below c t k (head_kind (head_of w)) r → KnowsStage k Del r st →
         Knows k (place.Settle st (purpose.Walk Del w r))
 
   -- of what follows from a place of the walk at time k, where q is the edge row that the place is about: of the next place at time m
   pub data KnowsNext (k m q : ℕ) : Next → Type 0 where
-    goes_on : (p : Place) → Knows m p → KnowsNext k m q (next.Out (Continue p))
+    goes_on : (p : Place) → Knows m p → KnowsNext k m q (next.Moved (Continue p))
     has_found : (r : ℕ) → Found c t k (head_of w) r → (r ≡ no_row) ⊎ (job_edge w.job r ≡ q) → KnowsNext k m q (next.Walked w r)
 
 module _ (c : Course) (t : ℕ) (w : Walk) (k m y : ℕ) where
-  pub knows_place : (p : Place) → KnowsNext c t w k m y (next.Out (Continue p)) → Knows c t w m p
+  pub knows_place : (p : Place) → KnowsNext c t w k m y (next.Moved (Continue p)) → Knows c t w m p
   knows_place p (goes_on q a) = a
 
   pub knows_found : (v : Walk) (r : ℕ) → KnowsNext c t w k m y (next.Walked v r) → (v ≡ w) × Found c t k (head_of w) r
@@ -86,7 +86,7 @@ begun_mark x d = elim (cases_eq x pending) [ inl e ↦ inl e | inr e ↦ inr (x,
     by_number false false e f g = refl
 
 -- a place is no end of a walk
-out_walked : {p : Place} {v : Walk} {r : ℕ} → next.Out (Continue p) ≡ next.Walked v r → ⊥
+out_walked : {p : Place} {v : Walk} {r : ℕ} → next.Moved (Continue p) ≡ next.Walked v r → ⊥
 out_walked e = grind arith
 
 module _ (c : Course) (n : ℕ) (law : Laws c n) where
@@ -101,11 +101,11 @@ module _ (c : Course) (n : ℕ) (law : Laws c n) where
     abbrev h : Head
     h = head_of w
 
-    stage_later : (k l : ℕ) (f : Field) (r : ℕ) (st : Stage) → k ≤ l → Linked c k h r → KnowsStage c t w k f r st → KnowsStage c t w l f r st
+    stage_later : (k l : ℕ) (f : Field) (r : ℕ) (st : Stage) → k ≤ l → CourseLinked c k h r → KnowsStage c t w k f r st → KnowsStage c t w l f r st
     stage_later k l f r stage.First u m a = tt
     stage_later k l f r stage.Clock u m a = begun_later c n law k l h f r u m a
     stage_later k l f r (stage.Swap x) u m a = (begun_later c n law k l h f r u m a.0, a.1)
-    stage_later k l f r stage.Again u m a = stamped_later c n law k l h f r u m a
+    stage_later k l f r stage.Reread u m a = stamped_later c n law k l h f r u m a
 
     -- what is known stays known
     pub knows_later : (k l : ℕ) (p : Place) → k ≤ l → Knows c t w k p → Knows c t w l p
@@ -127,10 +127,10 @@ module _ (c : Course) (n : ℕ) (law : Laws c n) where
         | inr (q, z) ↦ rw q (goes_on _ (at_ins stage.First r (rw e at (chain_start c n law t k h now)) (head_linked c n law k k h r (omega arith) e z) tt))
       ]
 
-      module _ (r : ℕ) (a : Chain c t k h r) (m : Linked c k h r) where
+      module _ (r : ℕ) (a : Chain c t k h r) (m : CourseLinked c k h r) where
         -- on to the older row
         lower : (s : ℕ) → Above c t k (head_kind h) r → c.older (head_kind h) r ≡ s →
-            KnowsNext c t w k k y (cond (eqb s no_row) (next.Walked w no_row) (next.Out (Continue (place.WalkOlder w s))))
+            KnowsNext c t w k k y (cond (eqb s no_row) (next.Walked w no_row) (next.Moved (Continue (place.WalkOlder w s))))
         lower s up e = elim (row_or_none s) [
           | inl (q, z) ↦ rw q (has_found no_row (found_none c n law t k h (rw (e ∙ z) at (chain_down c n law t k h r a (linked_some m) up))) (inl refl))
           | inr (q, z) ↦ (let (linked, stamped) = row_below c n law t k h r s a (linked_some m) e z in rw q (goes_on _ (at_older s (rw e at (chain_down c n law t k h r a (linked_some m) up)) linked stamped)))
@@ -142,8 +142,8 @@ module _ (c : Course) (n : ℕ) (law : Laws c n) where
         ins_is hand x e o s = rw (e, o) (by_test (ltb t x) refl)
           where
             by_test : (b : Bool) → ltb t x ≡ b →
-                KnowsNext c t w k k y (cond b (cond (eqb ((c.at k).older (head_kind h) r) no_row) (next.Walked w no_row) (next.Out (Continue (place.WalkOlder w ((c.at k).older (head_kind h) r)))))
-                (next.Out (Continue (place.Settle stage.First (purpose.Walk Del w r)))))
+                KnowsNext c t w k k y (cond b (cond (eqb ((c.at k).older (head_kind h) r) no_row) (next.Walked w no_row) (next.Moved (Continue (place.WalkOlder w ((c.at k).older (head_kind h) r)))))
+                (next.Moved (Continue (place.Settle stage.First (purpose.Walk Del w r)))))
             by_test true q = lower _ (record { number = x; is = s; high = grind (arith, nat_tests) }) (sym (law.older k h r m))
             by_test false q = goes_on _ (at_del stage.First r a m (record { number = x; is = s; low = grind (arith, nat_tests) }) tt)
 
@@ -165,12 +165,12 @@ module _ (c : Course) (n : ℕ) (law : Laws c n) where
               by_test true q = has_found r (found_late c n law t k h r x (linked_some m) (grind (arith, nat_tests)) a m b s) (inr own)
               by_test false q = has_found no_row (found_ended c n law t k h r x (linked_some m) (grind (arith, nat_tests)) a m b s) (inl refl)
 
-      again_mark : (f : Field) (r : ℕ) → Stamped c k (head_kind h) f r → mark_in (c.at k) (head_kind h) f r ≢ Pending
+      again_mark : (f : Field) (r : ℕ) → CourseStamped c k (head_kind h) f r → mark_in (c.at k) (head_kind h) f r ≢ Pending
       again_mark f r s q = grind (arith, s.is)
 
       -- after the swap the field bears its stamp
-      swapped : (f : Field) (r x : ℕ) → Linked c k h r → (mark_in (c.at k) (head_kind h) f r ≢ NotEnded) × (mark_of x ≡ Stamp x) →
-          ((c.at k).stamp (head_kind h) f r ≡ pending → (c.at (suc k)).stamp (head_kind h) f r ≡ x) → Stamped c (suc k) (head_kind h) f r
+      swapped : (f : Field) (r x : ℕ) → CourseLinked c k h r → (mark_in (c.at k) (head_kind h) f r ≢ NotEnded) × (mark_of x ≡ Stamp x) →
+          ((c.at k).stamp (head_kind h) f r ≡ pending → (c.at (suc k)).stamp (head_kind h) f r ≡ x) → CourseStamped c (suc k) (head_kind h) f r
       swapped f r x m (b, e) d = elim (begun_mark ((c.at k).stamp (head_kind h) f r) b) [
         | inl q ↦ record { number = x; is = ap mark_of (d q) ∙ e }
         | inr (y, q) ↦ record { number = y; is = law.keeps k h f r y m q }
@@ -178,14 +178,14 @@ module _ (c : Course) (n : ℕ) (law : Laws c n) where
 
       -- a field that is read first is settled further if it is pending
       read_first : (f : Field) (r x : ℕ) (p : Place) (v : Next) → mark_in (c.at k) (head_kind h) f r ≡ mark_of x → Knows c t w k p →
-          (mark_of x ≢ Pending → KnowsNext c t w k k y v) → KnowsNext c t w k k y (cond (eqb x pending) (next.Out (Continue p)) v)
+          (mark_of x ≢ Pending → KnowsNext c t w k k y v) → KnowsNext c t w k k y (cond (eqb x pending) (next.Moved (Continue p)) v)
       read_first f r x p v e a g = by_test (eqb x pending) refl
         where
-          by_test : (q : Bool) → eqb x pending ≡ q → KnowsNext c t w k k y (cond q (next.Out (Continue p)) v)
+          by_test : (q : Bool) → eqb x pending ≡ q → KnowsNext c t w k k y (cond q (next.Moved (Continue p)) v)
           by_test true q = goes_on p a
           by_test false q = g (settled_mark x q)
 
-      ins_turn : (top : ℕ) (st : Stage) (r : ℕ) → Chain c t k h r → Linked c k h r → KnowsStage c t w k Ins r st →
+      ins_turn : (top : ℕ) (st : Stage) (r : ℕ) → Chain c t k h r → CourseLinked c k h r → KnowsStage c t w k Ins r st →
           Done top (c.at k) (c.at (suc k)) (settles (cell.Stamp (head_kind h) Ins r) st) → KnowsNext c t w k (suc k) y (next_in top (c.at k) t (place.Settle st (purpose.Walk Ins w r)))
       ins_turn top stage.First r a m b d =
           next_later k (suc k) y _ (omega arith)
@@ -194,11 +194,11 @@ module _ (c : Course) (n : ℕ) (law : Laws c n) where
       ins_turn top stage.Clock r a m b d =
           next_later k (suc k) y _ (omega arith) (goes_on _ (at_ins (stage.Swap (c.at k).clock) r a m (b, law.clock_stamps k)))
       ins_turn top (stage.Swap x) r a m b d =
-          goes_on _ (at_ins stage.Again r (chain_later c n law t k (suc k) h r (omega arith) a) (linked_later (omega arith) m) (swapped Ins r x m b d))
-      ins_turn top stage.Again r a m b d =
-          next_later k (suc k) y _ (omega arith) (ins_first r a m (hand_in (c.at k) t (place.Settle stage.Again (purpose.Walk Ins w r))) _ refl refl refl (again_mark Ins r b))
+          goes_on _ (at_ins stage.Reread r (chain_later c n law t k (suc k) h r (omega arith) a) (linked_later (omega arith) m) (swapped Ins r x m b d))
+      ins_turn top stage.Reread r a m b d =
+          next_later k (suc k) y _ (omega arith) (ins_first r a m (hand_in (c.at k) t (place.Settle stage.Reread (purpose.Walk Ins w r))) _ refl refl refl (again_mark Ins r b))
 
-      del_turn : (top : ℕ) (st : Stage) (r : ℕ) → job_edge w.job r ≡ y → Chain c t k h r → Linked c k h r → Below c t k (head_kind h) r → KnowsStage c t w k Del r st →
+      del_turn : (top : ℕ) (st : Stage) (r : ℕ) → job_edge w.job r ≡ y → Chain c t k h r → CourseLinked c k h r → Below c t k (head_kind h) r → KnowsStage c t w k Del r st →
           Done top (c.at k) (c.at (suc k)) (settles (cell.Stamp (head_kind h) Del r) st) → KnowsNext c t w k (suc k) y (next_in top (c.at k) t (place.Settle st (purpose.Walk Del w r)))
       del_turn top stage.First r own a m b s d = next_later k (suc k) y _ (omega arith) (by_test (eqb x pending) refl)
         where
@@ -206,14 +206,14 @@ module _ (c : Course) (n : ℕ) (law : Laws c n) where
           x = (c.at k).stamp (head_kind h) Del r
 
           by_test : (q : Bool) → eqb x pending ≡ q →
-              KnowsNext c t w k k y (cond q (next.Out (Continue (place.Settle stage.Clock (purpose.Walk Del w r)))) (walked_del w r (hand_in (c.at k) t (place.Settle stage.First (purpose.Walk Del w r))) (mark_of x)))
+              KnowsNext c t w k k y (cond q (next.Moved (Continue (place.Settle stage.Clock (purpose.Walk Del w r)))) (walked_del w r (hand_in (c.at k) t (place.Settle stage.First (purpose.Walk Del w r))) (mark_of x)))
           by_test true q = goes_on _ (at_del stage.Clock r a m b (pending_begun (pending_mark x q)))
           by_test false q = del_is r a m b own (hand_in (c.at k) t (place.Settle stage.First (purpose.Walk Del w r))) (mark_of x) refl refl (settled_mark x q)
       del_turn top stage.Clock r own a m b s d = next_later k (suc k) y _ (omega arith) (goes_on _ (at_del (stage.Swap (c.at k).clock) r a m b (s, law.clock_stamps k)))
       del_turn top (stage.Swap x) r own a m b s d =
-          goes_on _ (at_del stage.Again r (chain_later c n law t k (suc k) h r (omega arith) a) (linked_later (omega arith) m) (below_later c n law t k (suc k) h r (omega arith) m b) (swapped Del r x m s d))
-      del_turn top stage.Again r own a m b s d =
-          next_later k (suc k) y _ (omega arith) (del_is r a m b own (hand_in (c.at k) t (place.Settle stage.Again (purpose.Walk Del w r))) (mark_in (c.at k) (head_kind h) Del r) refl refl (again_mark Del r s))
+          goes_on _ (at_del stage.Reread r (chain_later c n law t k (suc k) h r (omega arith) a) (linked_later (omega arith) m) (below_later c n law t k (suc k) h r (omega arith) m b) (swapped Del r x m s d))
+      del_turn top stage.Reread r own a m b s d =
+          next_later k (suc k) y _ (omega arith) (del_is r a m b own (hand_in (c.at k) t (place.Settle stage.Reread (purpose.Walk Del w r))) (mark_in (c.at k) (head_kind h) Del r) refl refl (again_mark Del r s))
 
     -- what is known after a turn
     pub turn_knows : (k : ℕ) → t < (c.at k).clock → (top : ℕ) (p : Place) → Knows c t w k p → Done top (c.at k) (c.at (suc k)) (touch_of p None) →
@@ -232,7 +232,7 @@ module _ (c : Course) (n : ℕ) (law : Laws c n) (top t : ℕ) (w : Walk) (from 
   step : (k : ℕ) → from ≤ k → k < till → Knows c t w k (at k) → Knows c t w (suc k) (at (suc k))
   step k l m a = by_turn (walk.turns k l m)
     where
-      by_turn : (at (suc k) ≡ at k) ⊎ ((next_in top (c.at k) t (at k) ≡ next.Out (Continue (at (suc k)))) × Done top (c.at k) (c.at (suc k)) (touch_of (at k) None)) →
+      by_turn : (at (suc k) ≡ at k) ⊎ ((next_in top (c.at k) t (at k) ≡ next.Moved (Continue (at (suc k)))) × Done top (c.at k) (c.at (suc k)) (touch_of (at k) None)) →
           Knows c t w (suc k) (at (suc k))
       by_turn (inl e) = rw e (knows_later c n law t w k (suc k) (at k) (omega arith) a)
       by_turn (inr (e, d)) = knows_place c t w k (suc k) (edge_row (at k)) (at (suc k)) (rw e at (turn_knows c n law t w k (now k l) top (at k) a d))
@@ -247,12 +247,12 @@ walked_done c t w top k v r p at_head e = tt
 walked_done c t w top k v r p (at_ins stage.First s a m b) e = tt
 walked_done c t w top k v r p (at_ins stage.Clock s a m b) e = tt
 walked_done c t w top k v r p (at_ins (stage.Swap x) s a m b) e = absurd (out_walked e)
-walked_done c t w top k v r p (at_ins stage.Again s a m b) e = tt
+walked_done c t w top k v r p (at_ins stage.Reread s a m b) e = tt
 walked_done c t w top k v r p (at_older s a m b) e = tt
 walked_done c t w top k v r p (at_del stage.First s a m b z) e = tt
 walked_done c t w top k v r p (at_del stage.Clock s a m b z) e = tt
 walked_done c t w top k v r p (at_del (stage.Swap x) s a m b z) e = absurd (out_walked e)
-walked_done c t w top k v r p (at_del stage.Again s a m b z) e = tt
+walked_done c t w top k v r p (at_del stage.Reread s a m b z) e = tt
 
 pub walks_find : WalksFind
 walks_find c n law top t w from till at walk l v r e =

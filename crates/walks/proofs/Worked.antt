@@ -11,7 +11,7 @@ use Rattle.places.specs.declared.place.Survey.TheVariants.{Snapshot}
 use Rattle.walks.specs.Memory.{mark_in}
 use Rattle.walks.specs.Surveys.{turn_of, TurnDone, goes_to, Surveying}
 use Rattle.walks.specs.Courses.{Old}
-use Rattle.walks.specs.Steps.{Links, WasLinked, MarkMoves, stays, stamps, Steps}
+use Rattle.walks.specs.Steps.{CourseLinkStep, CourseStepLinked, MarkMoves, stays, stamps, Steps}
 use Rattle.walks.specs.Worked.{memory_at, course, surveyor_at, Worked}
 
 rises : (k : ℕ) → (memory_at k).clock ≤ (memory_at (suc k)).clock
@@ -24,10 +24,10 @@ never_before : (q : ℕ) → q ≤ 0 → (memory_at q).head (head.Vertex 0) ≢ 
 never_before zero l e = omega arith
 never_before (suc q) l e = omega arith
 
-first_link : Links course 1 0 (head.Vertex 0) 1
+first_link : CourseLinkStep course 1 0 (head.Vertex 0) 1
 first_link = record { row = omega arith; is = refl; fresh = never_before; under = refl; ins = refl; del = refl; over = record { key = omega arith; over = inl refl } }
 
-heads : (k : ℕ) (h : Head) → ((memory_at (suc k)).head h ≡ (memory_at k).head h) ⊎ Links course 1 k h ((memory_at (suc k)).head h)
+heads : (k : ℕ) (h : Head) → ((memory_at (suc k)).head h ≡ (memory_at k).head h) ⊎ CourseLinkStep course 1 k h ((memory_at (suc k)).head h)
 heads zero (head.Vertex zero) = inr first_link
 heads zero (head.Vertex (suc i)) = inl refl
 heads zero (head.Edge i j) = inl refl
@@ -44,7 +44,7 @@ none_old (head.Vertex zero) r o = omega (arith, o.row, o.is)
 none_old (head.Vertex (suc i)) r o = omega (arith, o.row, o.is)
 none_old (head.Edge i j) r o = omega (arith, o.row, o.is)
 
-marks : (k : ℕ) (h : Head) (f : Field) (r : ℕ) → WasLinked course 1 k h r → MarkMoves course 1 k h f r (mark_in (memory_at k) (head_kind h) f r) (mark_in (memory_at (suc k)) (head_kind h) f r)
+marks : (k : ℕ) (h : Head) (f : Field) (r : ℕ) → CourseStepLinked course 1 k h r → MarkMoves course 1 k h f r (mark_in (memory_at k) (head_kind h) f r) (mark_in (memory_at (suc k)) (head_kind h) f r)
 marks zero h f r (inl o) = absurd (none_old h r o)
 marks zero h f r (inr w) = absurd (omega (arith, w.before))
 marks (suc zero) (head.Vertex i) Ins r w = stamps 1 1 refl refl (omega arith) w (λ q. grind arith) refl

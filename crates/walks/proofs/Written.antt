@@ -11,8 +11,9 @@ use Rattle.layout.proofs.Regions.{index_lt}
 use Rattle.layout.proofs.Inverse.{same_name}
 use Rattle.books.specs.declared.walked.Entry.{Entry}
 use Rattle.books.specs.declared.walked.Entry.TheVariants as entry
-use Rattle.stepper.specs.Effects.{put, zeroed, entered}
-use Rattle.stepper.specs.Turns.{cell_at}
+use Rattle.machine.specs.Effects.{put, zeroed, entered}
+use Rattle.machine.specs.Turns.{cell_at}
+use Rattle.laws.proofs.Pages.{FitEntry}
 use Rattle.walks.specs.Pages.{Page, clear, with_key, with_pair, written}
 
 -- pages are the same where each key and each pair is
@@ -47,14 +48,6 @@ zeroed_in cs i (suc n) o l b =
     (λ (e : o ≡ n). ap (λ x. get_or (set (zeroed cs i n) (i + n) 0) (i + x) 0) e ∙ get_or-set_same (zeroed cs i n) (i + n) 0 0 (omega (arith, zeroed_length cs i n)))
     (λ (m : ¬ (o ≡ n)). get_or-set_other (zeroed cs i n) (i + n) (i + o) 0 0 (λ q. m (omega arith)) ∙ zeroed_in cs i n o (let u : o ≢ n = m in omega arith) b)
     (cases_eq o n)
-
--- an entry whose keys are keys
-abbrev pub FitEntry : Sizes → Entry → Type 0
-FitEntry z entry.Nothing = Unit {0}
-FitEntry z entry.Clear = Unit {0}
-FitEntry z (entry.Key k r) = k < z.keys
-FitEntry z (entry.Pair i j x) = (i < z.keys) × (j < z.keys)
-FitEntry z (entry.Join i j x r) = (i < z.keys) × (j < z.keys)
 
 module _ (z : Sizes) (w : ℕ) (h : w < z.workers) where
   abbrev pub page : List ℕ → Page

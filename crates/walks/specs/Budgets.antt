@@ -1,5 +1,5 @@
 -- How many turns a snapshot or reach takes.
-use Rattle.std.specs.Prelude.{◌≡◌, ℕ, zero, suc, ◌+◌, ◌*◌, ◌<◌, ◌≤◌, cond, ◌⊎◌, ◌==◌}
+use Rattle.std.specs.Prelude.{◌≡◌, ℕ, zero, suc, ◌+◌, ◌*◌, ◌<◌, ◌≤◌, if◌then◌else◌, ◌⊎◌, ◌==◌}
 use Rattle.std.specs.declared.ops.ControlFlow.TheVariants.{Break}
 use Rattle.codes.specs.declared.answer.Answer.{Answer}
 use Rattle.layout.specs.declared.names.Head.{Head}
@@ -17,8 +17,8 @@ sum_below (suc n) f = sum_below n f + f n
 module _ (c : Course) where
   -- how many rows are in the chain of the head h at time k: one if it is a row at the start, and one for each time that it moved
   unfoldable pub links_over : ℕ → Head → ℕ
-  links_over zero h = cond ((c.at 0).head h == no_row) 0 1
-  links_over (suc k) h = links_over k h + cond ((c.at (suc k)).head h == (c.at k).head h) 0 1
+  links_over zero h = if (c.at 0).head h == no_row then 0 else 1
+  links_over (suc k) h = links_over k h + (if (c.at (suc k)).head h == (c.at k).head h then 0 else 1)
 
 -- how many rows are in the chains of all keys and pairs
 unfoldable pub rows_in : Course → ℕ → ℕ → ℕ

@@ -1,5 +1,5 @@
 -- The shared cells that walks read, by their names.
-use Rattle.std.specs.Prelude.{ℕ, Bool, cond, ◌&&◌, nat_lt}
+use Rattle.std.specs.Prelude.{ℕ, Bool, if◌then◌else◌, ◌&&◌, nat_lt}
 use Rattle.layout.specs.declared.sizes.Sizes.{Sizes}
 use Rattle.layout.specs.declared.names.Kind.{Kind}
 use Rattle.layout.specs.declared.names.Field.{Field}
@@ -9,8 +9,8 @@ use Rattle.layout.specs.declared.names.Cell.TheVariants as cell
 use Rattle.layout.specs.Rows.{no_row}
 use Rattle.places.specs.Marks.{mark_of}
 use Rattle.places.specs.declared.mark.Mark.{Mark}
-use Rattle.stepper.specs.States.{State}
-use Rattle.stepper.specs.Turns.{cell_at}
+use Rattle.machine.specs.States.{State}
+use Rattle.machine.specs.Turns.{cell_at}
 
 pub record Memory : Type 0 where
   pub clock : ℕ
@@ -34,7 +34,7 @@ head_inside z (head.Edge i j) = nat_lt i z.keys && nat_lt j z.keys
 abbrev pub memory_of : State → Memory
 memory_of s = record {
   clock = cell_at s.sizes s.cells cell.Clock;
-  head = λ h. cond (head_inside s.sizes h) (cell_at s.sizes s.cells (cell.Head h)) no_row;
+  head = λ h. if head_inside s.sizes h then cell_at s.sizes s.cells (cell.Head h) else no_row;
   stamp = λ k f r. cell_at s.sizes s.cells (cell.Stamp k f r);
   older = λ k r. cell_at s.sizes s.cells (cell.Older k r);
   source = λ r. cell_at s.sizes s.cells (cell.Source r);

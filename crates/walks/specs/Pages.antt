@@ -1,11 +1,11 @@
 -- The page of a worker, what is written into it, and the graph that it shows.
-use Rattle.std.specs.Prelude.{ℕ, Bool, cond, not, ◌&&◌, None, ◌==◌, nat_lt}
+use Rattle.std.specs.Prelude.{ℕ, Bool, if◌then◌else◌, not, ◌&&◌, None, ◌==◌, nat_lt}
 use Rattle.layout.specs.declared.names.Cell.TheVariants as cell
 use Rattle.layout.specs.Rows.{no_row}
 use Rattle.books.specs.declared.walked.Entry.{Entry}
 use Rattle.books.specs.declared.walked.Entry.TheVariants as entry
-use Rattle.stepper.specs.States.{State}
-use Rattle.stepper.specs.Turns.{cell_at}
+use Rattle.machine.specs.States.{State}
+use Rattle.machine.specs.Turns.{cell_at}
 use Rattle.questions.specs.Graph.{Graph}
 use Rattle.questions.specs.Pages.{weight_of}
 
@@ -17,18 +17,20 @@ pub record Page : Type 0 where
 -- what the cells of worker w's page hold
 abbrev pub page_of : State → ℕ → Page
 page_of s w = record {
-  key = λ k. cond (nat_lt k s.sizes.keys) (cell_at s.sizes s.cells (cell.PageKey w k)) 0;
-  pair = λ i j. cond (nat_lt i s.sizes.keys && nat_lt j s.sizes.keys) (cell_at s.sizes s.cells (cell.PagePair w i j)) 0;
+  key = λ k. if nat_lt k s.sizes.keys then cell_at s.sizes s.cells (cell.PageKey w k) else 0;
+  pair = λ i j.
+      if nat_lt i s.sizes.keys && nat_lt j s.sizes.keys then cell_at s.sizes s.cells (cell.PagePair w i j)
+      else 0;
 }
 
 abbrev pub clear : Page
 clear = record { key = λ k. no_row; pair = λ i j. 0 }
 
 abbrev pub with_key : Page → ℕ → ℕ → Page
-with_key p k r = record { key = λ j. cond (j == k) r (p.key j); pair = p.pair }
+with_key p k r = record { key = λ j. if j == k then r else p.key j; pair = p.pair }
 
 abbrev pub with_pair : Page → ℕ → ℕ → ℕ → Page
-with_pair p i j x = record { key = p.key; pair = λ k l. cond ((k == i) && (l == j)) x (p.pair k l) }
+with_pair p i j x = record { key = p.key; pair = λ k l. if (k == i) && (l == j) then x else p.pair k l }
 
 abbrev pub written : Page → Entry → Page
 written p entry.Nothing = p
@@ -44,5 +46,5 @@ has_key n p k = nat_lt k n && not (p.key k == no_row)
 abbrev pub graph_of : ℕ → Page → Graph
 graph_of n p = record {
   has = has_key n p;
-  edge = λ i j. cond (nat_lt i n && nat_lt j n) (weight_of (p.pair i j)) None;
+  edge = λ i j. if nat_lt i n && nat_lt j n then weight_of (p.pair i j) else None;
 }

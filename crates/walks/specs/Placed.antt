@@ -4,13 +4,13 @@ use Rattle.std.specs.declared.ops.ControlFlow.TheVariants.{Break}
 use Rattle.codes.specs.declared.answer.Answer.{Answer}
 use Rattle.codes.specs.declared.answer.Answer.TheVariants.{ClockSpent}
 use Rattle.places.specs.declared.place.Survey.{Survey}
-use Rattle.order.specs.Marks.{Marks, Sound}
+use Rattle.order.specs.Marks.{Marks, MarksSound}
 use Rattle.order.specs.Raises.{AllSettled, raise_key}
 use Rattle.order.specs.Rows.{graph_before}
 use Rattle.walks.specs.Courses.{Course, Laws}
 use Rattle.walks.specs.Pages.{graph_of}
 use Rattle.walks.specs.Surveys.{Surveyor, Going, turn_of, TurnDone, Surveying, Says}
-use Rattle.walks.specs.Told.{MarksTell}
+use Rattle.walks.specs.Told.{MarksTellCourse}
 
 -- The clock was raised at a time of the call, and by the marks of any later time the answer is right of the graph just before the key of the raise.
 pub record RightAtRaise (c : Course) (n : ℕ) (v : Survey) (began k : ℕ) (a : Answer) (g : Going) : Type 0 where
@@ -19,7 +19,7 @@ pub record RightAtRaise (c : Course) (n : ℕ) (v : Survey) (began k : ℕ) (a :
   pub before : time < k
   pub from : (c.at time).clock ≡ g.book.t
   pub next : (c.at (suc time)).clock ≡ suc g.book.t
-  pub says : (l bound top : ℕ) (m : Marks) → k ≤ l → MarksTell c l top m → Sound bound top m → AllSettled (λ j. (c.at j).clock) time top m →
+  pub says : (l bound top : ℕ) (m : Marks) → k ≤ l → MarksTellCourse c l top m → MarksSound bound top m → AllSettled (λ j. (c.at j).clock) time top m →
       time < bound → g.book.t ≤ top → Says a v (graph_before bound top m (raise_key bound time g.book.t)) (graph_of n g.page)
 
 -- every answer but 41 is right there

@@ -12,16 +12,16 @@ use Rattle.places.specs.declared.place.Stage.TheVariants.{First}
 use Rattle.places.specs.declared.place.Purpose.TheVariants.{Own}
 use Rattle.layout.specs.declared.names.Field.TheVariants.{Ins}
 use Rattle.places.specs.Moved.{Next, Next as next}
-use Rattle.places.specs.Outs.{Out}
+use Rattle.places.specs.Flows.{Flow}
 use Rattle.places.specs.Touches.{touch_of}
 use Rattle.places.specs.Walks.{first_job}
 use Rattle.books.specs.declared.book.Book.{Book}
 use Rattle.books.specs.Books.{blank}
-use Rattle.books.specs.Walked.{walked_of, Outcome}
+use Rattle.books.specs.Walked.{walked_of, WalkOutcome}
 use Rattle.questions.specs.Graph.{Graph}
 use Rattle.order.specs.Graph.{Reached}
 use Rattle.walks.specs.Memory.{Memory}
-use Rattle.walks.specs.Courses.{Course, Earlier, Laws}
+use Rattle.walks.specs.Courses.{Course, CourseBefore, Laws}
 use Rattle.walks.specs.Visible.{Stands}
 use Rattle.walks.specs.Walking.{hand_in, next_in, Done}
 use Rattle.walks.specs.Pages.{Page, clear, written, graph_of}
@@ -34,17 +34,17 @@ pub record Surveyor : Type 0 where
 
 -- where a turn leads, and its book and page then
 pub record Going : Type 0 where
-  pub out : Out
+  pub out : Flow
   pub book : Book
   pub page : Page
 
-abbrev pub served : Page → Outcome → Going
+abbrev pub served : Page → WalkOutcome → Going
 served p o = record { out = o.out; book = o.book; page = written p o.entry }
 
 -- A raise clears the page and starts the first walk. A walk that has ended goes into the book and the page. The ins of a linked row is settled; a
 -- snapshot or reach links none.
 abbrev pub going : ℕ → Surveyor → Hand → Next → Going
-going n s h (next.Out o) = record { out = o; book = s.book; page = s.page }
+going n s h (next.Moved o) = record { out = o; book = s.book; page = s.page }
 going n s h (next.Linked c r) = record { out = Continue (Settle First (Own Ins c r)); book = s.book; page = s.page }
 going n s h (next.Raised v t) = record { out = Continue (WalkHead (record { survey = v; job = first_job v })); book = blank t; page = clear }
 going n s h (next.Walked k r) = served s.page (walked_of s.book k n r h)
@@ -75,7 +75,7 @@ pub record Surveying (c : Course) (n top : ℕ) (v : Survey) (began now : ℕ) (
 
 -- the clock was raised from t since time b and before time k
 abbrev pub Raised : Course → ℕ → ℕ → ℕ → Type 0
-Raised c b t k = Earlier k (λ r. (b ≤ r) × ((c.at r).clock ≡ t) × ((c.at (suc r)).clock ≡ suc t))
+Raised c b t k = CourseBefore k (λ r. (b ≤ r) × ((c.at r).clock ≡ t) × ((c.at (suc r)).clock ≡ suc t))
 
 -- all answers but 41 come after a raise
 abbrev pub RaisedFor : Answer → Course → ℕ → ℕ → ℕ → Type 0
@@ -91,7 +91,7 @@ Says ClockSpent v g p = Unit {0}
 Says a v g p = ⊥
 
 -- the clock was raised in the call, and the answer is right of the graph of the rows that are visible at the number of the raise
-pub record Right (c : Course) (n : ℕ) (v : Survey) (began k : ℕ) (a : Answer) (g : Going) : Type 0 where
+pub record RightSurvey (c : Course) (n : ℕ) (v : Survey) (began k : ℕ) (a : Answer) (g : Going) : Type 0 where
   pub raised : RaisedFor a c began g.book.t k
   pub says : (l : ℕ) (graph : Graph) → k ≤ l → Stands c g.book.t l graph → Says a v graph (graph_of n g.page)
 
@@ -99,4 +99,4 @@ pub record Right (c : Course) (n : ℕ) (v : Survey) (began k : ℕ) (a : Answer
 abbrev pub PagesStand : Type 0
 PagesStand = (c : Course) (n : ℕ) → Laws c n → (top : ℕ) (v : Survey) (began now : ℕ) (at : ℕ → Surveyor) → Surveying c n top v began now at →
     began ≤ now → (a : Answer) → TurnDone top (c.at now) (c.at (suc now)) (at now) →
-    (turn_of n top (c.at now) (at now)).out ≡ Break a → Right c n v began (suc now) a (turn_of n top (c.at now) (at now))
+    (turn_of n top (c.at now) (at now)).out ≡ Break a → RightSurvey c n v began (suc now) a (turn_of n top (c.at now) (at now))

@@ -8,10 +8,10 @@ use Rattle.places.specs.declared.place.Stage.{Stage}
 use Rattle.places.specs.declared.place.Purpose.TheVariants as purpose
 use Rattle.places.specs.declared.place.Place.{Place}
 use Rattle.places.specs.declared.place.Place.TheVariants.{Idle, Settle, Raise, WalkHead, WalkOlder}
-use Rattle.places.specs.Outs.{Out}
-use Rattle.stepper.specs.States.{State}
-use Rattle.stepper.specs.Turns.{worker_at, followed_at, answer_at, turned}
-use Rattle.stepper.specs.Workers.{out_answer}
+use Rattle.places.specs.Flows.{Flow}
+use Rattle.machine.specs.States.{State}
+use Rattle.machine.specs.Turns.{worker_at, followed_at, answer_at, turned}
+use Rattle.machine.specs.Workers.{flow_answer}
 use Rattle.laws.specs.Fits.{Fit}
 use Rattle.walks.specs.Memory.{memory_of}
 use Rattle.walks.specs.Pages.{page_of, written}
@@ -32,13 +32,13 @@ pub data InSurvey : Place → Type 0 where
   at_field : (st : Stage) (f : Field) (k : Walk) (r : ℕ) → InSurvey (Settle st (purpose.Walk f k r))
 
 -- a worker that answers is idle
-abbrev pub place_then : Out → Place
+abbrev pub place_then : Flow → Place
 place_then (Continue p) = p
 place_then (Break a) = Idle
 
 -- a turn of worker w answers, moves the worker and writes into its page as g says
 pub record TurnGoes (s : State) (w : ℕ) (g : Going) : Type 0 where
-  pub answer : answer_at s w ≡ out_answer g.out
+  pub answer : answer_at s w ≡ flow_answer g.out
   pub place : (followed_at s w).worker.place ≡ place_then g.out
   pub book : (followed_at s w).worker.book ≡ g.book
   pub page : written (page_of s w) (followed_at s w).entry ≡ g.page

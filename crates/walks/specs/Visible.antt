@@ -8,12 +8,12 @@ use Rattle.places.specs.Touches.{head_kind}
 use Rattle.places.specs.declared.mark.Mark.TheVariants.{Stamp}
 use Rattle.questions.specs.Graph.{Graph}
 use Rattle.walks.specs.Memory.{mark_in}
-use Rattle.walks.specs.Courses.{Course, Linked}
+use Rattle.walks.specs.Courses.{Course, CourseLinked}
 
 module _ (c : Course) (t : ℕ) where
   -- row r of the head h is visible, by the memory of time k
   pub record Visible (k : ℕ) (h : Head) (r : ℕ) : Type 0 where
-    pub linked : Linked c k h r
+    pub linked : CourseLinked c k h r
     pub number : ℕ
     pub born : mark_in (c.at k) (head_kind h) Ins r ≡ Stamp number
     pub low : number ≤ t

@@ -1,5 +1,5 @@
 -- One walk of a head, turn by turn.
-use Rattle.std.specs.Prelude.{◌≡◌, ℕ, suc, ◌<◌, ◌≤◌, cond, ◌⊎◌, Some, None, Option, ◌==◌, nat_lt}
+use Rattle.std.specs.Prelude.{◌≡◌, ℕ, suc, ◌<◌, ◌≤◌, if◌then◌else◌, ◌⊎◌, Some, None, Option, ◌==◌, nat_lt}
 use Rattle.std.specs.Bool.{then_some}
 use Rattle.std.specs.declared.ops.ControlFlow.TheVariants.{Continue}
 use Rattle.layout.specs.declared.names.Kind.{Kind}
@@ -26,7 +26,7 @@ older_in m (Some p) = m.older p.0 p.1
 
 -- what a cell of an edge row holds, where there is one
 abbrev pub edge_in : (ℕ → ℕ) → ℕ → ℕ
-edge_in cells e = cond (e == no_row) 0 (cells e)
+edge_in cells e = if e == no_row then 0 else cells e
 
 -- what a worker that walks at t has at hand at a place
 abbrev pub hand_in : Memory → ℕ → Place → Hand
@@ -40,22 +40,22 @@ hand_in m t p = record {
 }
 
 -- the number in a cell that a walk touches
-abbrev pub number_in : Memory → Cell → ℕ
-number_in m cell.Clock = m.clock
-number_in m (cell.Head h) = m.head h
-number_in m (cell.Stamp k f r) = m.stamp k f r
-number_in m c = 0
+abbrev pub number_touched : Memory → Cell → ℕ
+number_touched m cell.Clock = m.clock
+number_touched m (cell.Head h) = m.head h
+number_touched m (cell.Stamp k f r) = m.stamp k f r
+number_touched m c = 0
 
 -- what the operation of a turn gives; the clock is raised below top
 abbrev pub got_in : ℕ → Memory → Touch → Option ℕ
-got_in top m (touch.Read c) = Some (number_in m c)
-got_in top m (touch.Swap c old new) = then_some (number_in m c == old) old
-got_in top m touch.Raise = cond (nat_lt m.clock top) (Some m.clock) None
+got_in top m (touch.Read c) = Some (number_touched m c)
+got_in top m (touch.Swap c old new) = then_some (number_touched m c == old) old
+got_in top m touch.Raise = if nat_lt m.clock top then Some m.clock else None
 got_in top m o = None
 
 -- what the operation does to the memory, from m to m'
 abbrev pub Done : ℕ → Memory → Memory → Touch → Type 0
-Done top m m' (touch.Swap c old new) = number_in m c ≡ old → number_in m' c ≡ new
+Done top m m' (touch.Swap c old new) = number_touched m c ≡ old → number_touched m' c ≡ new
 Done top m m' touch.Raise = m.clock < top → m'.clock ≡ suc m.clock
 Done top m m' o = Unit {0}
 
@@ -69,7 +69,7 @@ pub record Walking (c : Course) (top t : ℕ) (w : Walk) (from till : ℕ) (plac
   pub raised : t < (c.at from).clock
   pub starts : place from ≡ WalkHead w
   pub turns : (k : ℕ) → from ≤ k → k < till → (place (suc k) ≡ place k) ⊎
-      ((next_in top (c.at k) t (place k) ≡ next.Out (Continue (place (suc k)))) × Done top (c.at k) (c.at (suc k)) (touch_of (place k) None))
+      ((next_in top (c.at k) t (place k) ≡ next.Moved (Continue (place (suc k)))) × Done top (c.at k) (c.at (suc k)) (touch_of (place k) None))
 
 -- a walk that ends at time `till` has found the row of its head that is visible at t, or no row
 abbrev pub WalksFind : Type 0

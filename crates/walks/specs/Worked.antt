@@ -9,7 +9,7 @@ use Rattle.layout.specs.declared.names.Field.TheVariants.{Ins, Del}
 use Rattle.layout.specs.declared.names.Head.{Head}
 use Rattle.layout.specs.declared.names.Head.TheVariants as head
 use Rattle.places.specs.Marks.{pending}
-use Rattle.places.specs.Outs.{Out}
+use Rattle.places.specs.Flows.{Flow}
 use Rattle.places.specs.declared.place.Survey.TheVariants.{Snapshot}
 use Rattle.places.specs.declared.place.Place.TheVariants.{Raise}
 use Rattle.books.specs.Books.{blank}
@@ -43,7 +43,7 @@ memory_at (suc (suc (suc k))) = memory 2 1 1
 abbrev pub course : Course
 course = record { at = memory_at; older = λ k r. 0; source = λ r. 0; target = λ r. 0; weight = λ r. 1 }
 
-abbrev pub moved : Surveyor → Out → Surveyor
+abbrev pub moved : Surveyor → Flow → Surveyor
 moved s (Continue p) = record s { place = p }
 moved s (Break a) = s
 

@@ -1,7 +1,7 @@
 -- After a turn of a worker at a place of a snapshot or reach, its page is what was written into it.
 use Rattle.std.specs.Prelude.{◌≡◌, ℕ}
-use Rattle.stepper.specs.States.{State}
-use Rattle.stepper.specs.Turns.{worker_at, followed_at, turned}
+use Rattle.machine.specs.States.{State}
+use Rattle.machine.specs.Turns.{worker_at, followed_at, turned}
 use Rattle.laws.specs.Fits.{Fit}
 use Rattle.walks.specs.Pages.{page_of, written}
 use Rattle.walks.specs.Turns.{InSurvey}

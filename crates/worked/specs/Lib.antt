@@ -1,2 +1,3 @@
-pub mod Play
+pub mod Openings
+pub mod Plays
 pub mod Table

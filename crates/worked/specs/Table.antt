@@ -1,107 +1,64 @@
 -- The worked cases, shown of the rules.
-use Rattle.std.specs.Prelude.{◌≡◌, [], ◌∷◌, replicate, Some, Ok, Err, codes}
-use Rattle.std.proofs.Common.{lit≤}
-use Rattle.codes.specs.declared.refusal.Refusal.TheVariants.{SizeOutside, TooFewCells}
-use Rattle.layout.specs.declared.sizes.Sizes.{Sizes}
+use Rattle.std.specs.Prelude.{◌≡◌, ℕ, List, [], ◌∷◌, ◌++◌, replicate, Some, codes}
 use Rattle.layout.specs.Layout.{needed}
-use Rattle.layout.specs.Limits.{sized}
-use Rattle.stepper.specs.States.{State}
-use Rattle.stepper.specs.Opening.{opened, opened_state}
-use Rattle.stepper.specs.Workers.{fresh_table}
 use Rattle.questions.specs.Cases.{Only}
 use Rattle.questions.specs.Measures.{total_scale, weakest_scale}
-use Rattle.worked.specs.Play.{replies}
+use Rattle.session.specs.Sessions.{SessionState, SessionState.Shut}
+use Rattle.worked.specs.Plays.{Plays}
+use Rattle.worked.specs.Openings.{least}
+
+-- nothing is open over so many cells of 0
+abbrev pub over : ℕ → SessionState
+over n = Shut (replicate n 0)
 
 -- two keys, two workers, four rows of each kind, greatest clock 9
-abbrev pub two : Sizes
-two = record {
-  keys = 2;
-  workers = 2;
-  vrows = 4;
-  erows = 4;
-  top = 9;
-  keyed = (lit≤ tt, lit≤ tt);
-  staffed = (lit≤ tt, lit≤ tt);
-  vrowed = (lit≤ tt, lit≤ tt);
-  erowed = (lit≤ tt, lit≤ tt);
-  timed = (lit≤ tt, lit≤ tt);
-}
+abbrev pub opens_two : List ℕ
+opens_two = codes "0102020004000400000009"
 
--- one of everything
-abbrev pub least : Sizes
-least = record {
-  keys = 1;
-  workers = 1;
-  vrows = 1;
-  erows = 1;
-  top = 1;
-  keyed = (lit≤ tt, lit≤ tt);
-  staffed = (lit≤ tt, lit≤ tt);
-  vrowed = (lit≤ tt, lit≤ tt);
-  erowed = (lit≤ tt, lit≤ tt);
-  timed = (lit≤ tt, lit≤ tt);
-}
+-- both keys are added, worker 0 is ten turns into adding edge (0, 1), and worker 1 removes key 1
+abbrev pub removal : List (List ℕ)
+removal =
+    codes "020001000000000000" ∷ (codes "0300FF" ∷ (codes "020101010000000000" ∷ (codes "0301FF" ∷
+    (codes "020004000100000005" ∷ (codes "03000A" ∷ (codes "020102010000000000" ∷ (codes "0301FF" ∷ [])))))))
 
--- two keys, one vertex row
-abbrev pub one_row : Sizes
-one_row = record {
-  keys = 2;
-  workers = 1;
-  vrows = 1;
-  erows = 1;
-  top = 9;
-  keyed = (lit≤ tt, lit≤ tt);
-  staffed = (lit≤ tt, lit≤ tt);
-  vrowed = (lit≤ tt, lit≤ tt);
-  erowed = (lit≤ tt, lit≤ tt);
-  timed = (lit≤ tt, lit≤ tt);
-}
+-- and the replies to that
+abbrev pub removed : List (List ℕ)
+removed =
+    codes "8200" ∷ (codes "831006" ∷ (codes "8200" ∷ (codes "831006" ∷
+    (codes "8200" ∷ (codes "83000A" ∷ (codes "8200" ∷ (codes "831208" ∷ [])))))))
 
--- just opened, on as many cells as are needed
-abbrev pub opened_with : Sizes → State
-opened_with z = opened_state (replicate (needed z) 0) z
+-- worker 1 takes a snapshot, the edge is tried on, and the page is shown
+abbrev pub snapshot : List (List ℕ)
+snapshot = codes "020107000000000000" ∷ (codes "0301FF" ∷ (codes "0300FF" ∷ (codes "0401" ∷ [])))
+
+-- and the replies to that
+abbrev pub snapshot_taken : List (List ℕ)
+snapshot_taken = codes "8200" ∷ (codes "833007" ∷ (codes "831307" ∷ (codes "8400010000000000000000000000000000000000" ∷ [])))
 
 pub record Table : Type 0 where
-  -- 64 keys are lawful, 65 are not
-  pub most_keys : sized 64 1 1 1 1 ≡ Ok (record { keys = 64; workers = 1; vrows = 1; erows = 1; top = 1 })
-  pub too_many_keys : sized 65 1 1 1 1 ≡ Err SizeOutside
-  -- one of everything needs 14 cells; on 13 it does not open
-  pub fourteen : needed least ≡ 14
-  pub thirteen_cells : opened (replicate 13 7) least ≡ Err (replicate 13 7, TooFewCells)
-  pub fourteen_cells : opened (replicate 14 7) least ≡ Ok (record { cells = 1 ∷ replicate 13 0; sizes = least; workers = fresh_table })
-  -- Both keys are added, and worker 0 is ten turns into adding edge (0, 1). Worker 1 removes key 1, and a snapshot raises the clock.
-  -- The edge then bears a higher stamp than the removal: 13.
-  pub worked_session :
-      replies (opened_with two)
-      (codes "020001000000000000" ∷ (codes "0300FF" ∷ (codes "020101010000000000" ∷ (codes "0301FF" ∷
-      (codes "020004000100000005" ∷ (codes "03000A" ∷ (codes "020102010000000000" ∷ (codes "0301FF" ∷
-      (codes "020107000000000000" ∷ (codes "0301FF" ∷ (codes "0300FF" ∷ [])))))))))))
-      ≡
-      (codes "8200" ∷ (codes "831006" ∷ (codes "8200" ∷ (codes "831006" ∷
-      (codes "8200" ∷ (codes "83000A" ∷ (codes "8200" ∷ (codes "831208" ∷
-      (codes "8200" ∷ (codes "833007" ∷ (codes "831307" ∷ [])))))))))))
+  -- The snapshot raises the clock. The edge then bears a higher stamp than the removal: 13. The page shows key 0 alone.
+  pub worked_session : Plays (over 4096) (opens_two ∷ (removal ++ snapshot)) (codes "8100" ∷ (removed ++ snapshot_taken))
   -- Without the snapshot the two stamps are equal, which lets the edge in: 20.
-  pub equal_stamps :
-      replies (opened_with two)
-      (codes "020001000000000000" ∷ (codes "0300FF" ∷ (codes "020101010000000000" ∷ (codes "0301FF" ∷
-      (codes "020004000100000005" ∷ (codes "03000A" ∷ (codes "020102010000000000" ∷ (codes "0301FF" ∷
-      (codes "0300FF" ∷ [])))))))))
-      ≡
-      (codes "8200" ∷ (codes "831006" ∷ (codes "8200" ∷ (codes "831006" ∷
-      (codes "8200" ∷ (codes "83000A" ∷ (codes "8200" ∷ (codes "831208" ∷
-      (codes "832007" ∷ [])))))))))
+  pub equal_stamps : Plays (over 4096) (opens_two ∷ (removal ++ (codes "0300FF" ∷ []))) (codes "8100" ∷ (removed ++ (codes "832007" ∷ [])))
+  -- 64 keys open, where there are cells enough; 65 do not
+  pub most_keys : Plays (over 8330) (codes "0140010001000100000001" ∷ []) (codes "8100" ∷ [])
+  pub too_many_keys : Plays (over 8330) (codes "0141010001000100000001" ∷ []) (codes "81E1" ∷ [])
+  -- one of everything needs 14 cells; 13 are too few
+  pub fourteen : needed least ≡ 14
+  pub thirteen_cells : Plays (over 13) (codes "0101010001000100000001" ∷ []) (codes "81E2" ∷ [])
+  pub fourteen_cells : Plays (over 14) (codes "0101010001000100000001" ∷ []) (codes "8100" ∷ [])
   -- weight 1,000,000 begins; 1,000,001 and 0 do not
-  pub weight_most : replies (opened_with two) (codes "0200040001000F4240" ∷ []) ≡ (codes "8200" ∷ [])
-  pub weight_over : replies (opened_with two) (codes "0200040001000F4241" ∷ []) ≡ (codes "82E7" ∷ [])
-  pub weight_zero : replies (opened_with two) (codes "020004000100000000" ∷ []) ≡ (codes "82E7" ∷ [])
+  pub weight_most : Plays (over 91) (opens_two ∷ (codes "0200040001000F4240" ∷ [])) (codes "8100" ∷ (codes "8200" ∷ []))
+  pub weight_over : Plays (over 91) (opens_two ∷ (codes "0200040001000F4241" ∷ [])) (codes "8100" ∷ (codes "82E7" ∷ []))
+  pub weight_zero : Plays (over 91) (opens_two ∷ (codes "020004000100000000" ∷ [])) (codes "8100" ∷ (codes "82E7" ∷ []))
   -- with the greatest clock 1 a snapshot ends at its first turn: 41
-  pub clock_spent : replies (opened_with least) (codes "020007000000000000" ∷ (codes "0300FF" ∷ [])) ≡ (codes "8200" ∷ (codes "834101" ∷ []))
+  pub clock_spent :
+      Plays (over 14) (codes "0101010001000100000001" ∷ (codes "020007000000000000" ∷ (codes "0300FF" ∷ []))) (codes "8100" ∷ (codes "8200" ∷ (codes "834101" ∷ [])))
   -- with one vertex row a worker's second add ends at its link turn: 40
   pub rows_spent :
-      replies (opened_with one_row)
-      (codes "020001000000000000" ∷ (codes "0300FF" ∷ (codes "020001010000000000" ∷ (codes "0300FF" ∷ []))))
-      ≡
-      (codes "8200" ∷ (codes "831006" ∷ (codes "8200" ∷ (codes "834002" ∷ []))))
+      Plays (over 22)
+      (codes "0102010001000100000009" ∷ (codes "020001000000000000" ∷ (codes "0300FF" ∷ (codes "020001010000000000" ∷ (codes "0300FF" ∷ [])))))
+      (codes "8100" ∷ (codes "8200" ∷ (codes "831006" ∷ (codes "8200" ∷ (codes "834002" ∷ [])))))
   -- edges 0 → 1 of 5, 1 → 2 of 2 and 0 → 2 of 9: from 0 to 2 the total is 7 and the weakest is 9, and nothing else
   pub total : Only total_scale 0 2 (Some 7)
   pub weakest : Only weakest_scale 0 2 (Some 9)

@@ -4,7 +4,7 @@
 ghost use Rattle.std.specs.Prelude.{◌≡◌, replicate};
 
 use cells::Words;
-use session::lines::serve_lines;
+use session::serve::serve_lines;
 
 // The program's memory.
 fn fresh_words() -> [u32; 4096]
@@ -15,5 +15,10 @@ fn fresh_words() -> [u32; 4096]
 
 fn main(rt: HostRuntime) -> anyhow::Result<()> {
     let mut words = fresh_words();
-    serve_lines(&rt, Words { words: &mut words })
+    serve_lines(
+        Words { words: &mut words },
+        &mut rt.stdin(),
+        &mut rt.stdout(),
+    )?;
+    Ok(())
 }

@@ -4,7 +4,7 @@
 ghost use Rattle.std.specs.Prelude.{◌≡◌, replicate};
 
 use cells::Image;
-use session::lines::serve_lines;
+use session::serve::serve_lines;
 
 // The program's memory: four bytes a cell.
 fn fresh_bytes() -> [u8; 16384]
@@ -15,5 +15,10 @@ fn fresh_bytes() -> [u8; 16384]
 
 fn main(rt: HostRuntime) -> anyhow::Result<()> {
     let mut bytes = fresh_bytes();
-    serve_lines(&rt, Image { bytes: &mut bytes })
+    serve_lines(
+        Image { bytes: &mut bytes },
+        &mut rt.stdin(),
+        &mut rt.stdout(),
+    )?;
+    Ok(())
 }

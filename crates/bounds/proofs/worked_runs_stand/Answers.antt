@@ -1,5 +1,5 @@
-use Rattle.bounds.proofs.Worked.{worked}
+use Rattle.bounds.proofs.Theorems.{worked_runs_stand}
 use Rattle.bounds.proofs.worked_runs_stand.Goals as goal
 
 pub returns : goal.returns
-returns c = worked
+returns c = worked_runs_stand

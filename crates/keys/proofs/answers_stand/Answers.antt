@@ -1,7 +1,5 @@
-use Rattle.keys.proofs.Stands.{answers_stand}
+use Rattle.keys.proofs.Theorems.{answers_stand}
 use Rattle.keys.proofs.answers_stand.Goals as goal
 
 pub returns : goal.returns
-returns c =
-    answers_stand c.runs_sound.ensures c.runs_keep_laws.ensures c.runs_stamp.ensures c.runs_step.ensures c.runs_last.ensures c.runs_know.ensures c.runs_events.ensures c.runs_change_once.ensures
-    c.runs_find_vertices.ensures c.runs_find_edges.ensures c.runs_miss_edges.ensures
+returns c = answers_stand

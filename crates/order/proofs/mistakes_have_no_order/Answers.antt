@@ -1,7 +1,7 @@
 use Rattle.order.proofs.EarlyAnswer.{early_answer}
 use Rattle.order.proofs.EndedRow.{second_check}
 use Rattle.order.proofs.HiddenEdge.{hidden_edge}
-use Rattle.order.proofs.Members.{pending_member, left_out, overtaken}
+use Rattle.order.proofs.Members.{pending_member, left_out, turned_round, overtaken}
 use Rattle.order.proofs.mistakes_have_no_order.Goals as goal
 
 pub returns : goal.returns
@@ -11,5 +11,6 @@ returns c = record {
   hidden_edge = hidden_edge;
   pending_member = pending_member;
   left_out = left_out;
+  turned_round = turned_round;
   overtaken = overtaken;
 }

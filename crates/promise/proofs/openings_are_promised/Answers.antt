@@ -1,4 +1,5 @@
+use Rattle.promise.proofs.Theorems.{openings_are_promised}
 use Rattle.promise.proofs.openings_are_promised.Goals as goal
 
 pub returns : goal.returns
-returns c = c.contracts_follow.ensures.openings c.promise_holds.ensures
+returns c = openings_are_promised

@@ -1,5 +1,5 @@
-use Rattle.promise.proofs.Named.{page_named}
+use Rattle.promise.proofs.Theorems.{pages_are_named}
 use Rattle.promise.proofs.pages_are_named.Goals as goal
 
 pub returns : goal.returns
-returns c = page_named
+returns c = pages_are_named

@@ -1,4 +1,5 @@
+use Rattle.promise.proofs.Theorems.{promise_holds}
 use Rattle.promise.proofs.promise_holds.Goals as goal
 
 pub returns : goal.returns
-returns c = c.promise_follows.ensures c.points_are_keyed.ensures
+returns c = promise_holds

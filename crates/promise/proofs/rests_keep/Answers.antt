@@ -1,4 +1,4 @@
-use Rattle.promise.proofs.Rests.{rests_keep}
+use Rattle.promise.proofs.Theorems.{rests_keep}
 use Rattle.promise.proofs.rests_keep.Goals as goal
 
 pub returns : goal.returns

@@ -1,5 +1,5 @@
-use Rattle.promise.proofs.Cases.{worked}
+use Rattle.promise.proofs.Theorems.{worked_cases_stand}
 use Rattle.promise.proofs.worked_cases_stand.Goals as goal
 
 pub returns : goal.returns
-returns c = worked
+returns c = worked_cases_stand

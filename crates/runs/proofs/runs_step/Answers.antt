@@ -1,5 +1,5 @@
-use Rattle.runs.proofs.Steps.{runs_step}
+use Rattle.runs.proofs.Theorems.{runs_step}
 use Rattle.runs.proofs.runs_step.Goals as goal
 
 pub returns : goal.returns
-returns c = runs_step c.runs_sound.ensures c.runs_keep_laws.ensures c.runs_stamp.ensures
+returns c = runs_step

@@ -1,5 +1,5 @@
-use Rattle.runs.proofs.Worked.{worked}
+use Rattle.runs.proofs.Theorems.{worked_case_stands}
 use Rattle.runs.proofs.worked_case_stands.Goals as goal
 
 pub returns : goal.returns
-returns c = worked
+returns c = worked_case_stands

@@ -1,6 +1,6 @@
 use Rattle.std.proofs.Common.{◌≡◌, ◌+◌, take, drop, sym, ap, ◌∙◌, arith}
 use Rattle.std.proofs.lemmas.List.{take_all, take_rest, drop_all}
-use Rattle.replay.specs.Texts.{feed_at}
+use Rattle.session.specs.Texts.{feed_at}
 use Rattle.replay.proofs.Feeding.{feed_found, feed_none}
 use Rattle.replay.proofs.feed.split.Goals as goal
 

@@ -1,12 +1,19 @@
-use Rattle.stepper.specs.States.{state_of}
-use Rattle.stepper.proofs.Giving.{gave_answer, gave_more}
+use Rattle.std.proofs.Common.{rules}
+use Rattle.machine.specs.declared.request.Request.TheVariants.{Give}
+use Rattle.machine.proofs.Extending.{extends}
+use Rattle.promise.proofs.Contracts.{request_kept}
 use Rattle.stepper.proofs.run.Run.give.Goals as goal
 
-pub returns-in-Some : goal.returns-in-Some
-returns-in-Some g c =
-    gave_answer _ (state_of g.M.CellMemory.cells c.loop-i.self) _ _ _ _ _ c.loop-i-test.true c.loop-i.invariant.state c.loop-i.invariant.quiet c.in-Some.ensures.answer c.in-Some.ensures.after
+pub returns-in_err-index-clause-history : goal.returns-in_err-index-clause-history
+returns-in_err-index-clause-history g c = extends _ _ (Give c.args.ticket) _ (search rules) (search rules)
 
-pub loop-i-preserved : goal.loop-i-preserved
-loop-i-preserved g c =
-    let more = gave_more _ (state_of g.M.CellMemory.cells c.loop-i.self) _ _ _ c.loop-i.invariant.state c.loop-i.invariant.quiet c.in_default.ensures.answer c.in_default.ensures.after in
-    record { state = more.0; quiet = more.1 }
+pub returns-in_err-index-clause-promise : goal.returns-in_err-index-clause-promise
+returns-in_err-index-clause-promise g c =
+    request_kept _ _ (Give c.args.ticket) _ (extends _ _ (Give c.args.ticket) _ (search rules) (search rules))
+
+pub returns-clause-history : goal.returns-clause-history
+returns-clause-history g c = extends _ _ (Give c.args.ticket) _ (search rules) (search rules)
+
+pub returns-clause-promise : goal.returns-clause-promise
+returns-clause-promise g c =
+    request_kept _ _ (Give c.args.ticket) _ (extends _ _ (Give c.args.ticket) _ (search rules) (search rules))

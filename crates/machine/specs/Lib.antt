@@ -1,0 +1,12 @@
+pub mod Workers
+pub mod States
+pub mod Opening
+pub mod Effects
+pub mod Turns
+pub mod Requests
+pub mod History
+pub mod Several
+pub mod Lending
+pub mod Counts
+pub mod Pages
+pub mod Spent

@@ -1,0 +1,15 @@
+use Rattle.std.proofs.Common.{◌≡◌, ◌-◌, ◌≤◌, length, take}
+use Rattle.session.specs.Sessions.{session_of}
+use Rattle.session.specs.Feeding.{Carries}
+use Rattle.session.proofs.serve.take_in.Given as goal
+
+abbrev pub invariant-loop-used : goal.invariant-loop-used
+invariant-loop-used g l = record {
+  carries : Carries (session_of g.M.CellMemory.cells l.initial.session) l.initial.held (take l.used l.bytes) l.held (take l.end l.out) (session_of g.M.CellMemory.cells l.session);
+  used : l.used ≤ length l.bytes;
+  within : l.end ≤ length l.out;
+  some : l.used ≡ 0 → l.end ≡ 0;
+}
+
+abbrev pub decreases-loop-used : goal.decreases-loop-used
+decreases-loop-used g l = length l.bytes - l.used

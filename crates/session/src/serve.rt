@@ -1,0 +1,227 @@
+// A session over a reader and a writer.
+ghost use Rattle.std.specs.Prelude.{◌≡◌, ◌+◌, ◌<◌, ◌≤◌, true, length, take, IfOk, IfErr};
+ghost use Rattle.session.specs.Sessions.{session_of, SessionState.Shut as Waiting};
+ghost use Rattle.session.specs.Served.{Written};
+ghost use Rattle.session.specs.Feeding.{Carries};
+ghost use Rattle.session.specs.Service.{GrowsByFront, Passes, Breaks, Finishes, Serves};
+ghost use Rattle.std.specs.Io.KnownBytes.{Keeps, Consumes, IsAtEnd, WriteAppends};
+
+use crate::answer::answer;
+use crate::held::Held;
+use crate::states::Session;
+use cells::CellMemory;
+use codes::Refusal;
+use frames::{Frame, LINE_FEED, LONGEST, parse};
+use std::io;
+use std::io::{ErrorKind, Read, Write};
+use thiserror::Error;
+
+/// Why a service ended before its input did.
+#[derive(Debug, Drop, Error)]
+pub enum ServeError {
+    /// The input could not be read. Every line that was read whole has its reply written.
+    #[error("the input cannot be read: {0}")]
+    Read(io::Error),
+    /// A reply could not be written. What is written is a front of the replies to the lines that were read.
+    #[error("the replies cannot be written: {0}")]
+    Write(io::Error),
+}
+
+// A session after a line, and where the reply ends.
+#[derive(Drop)]
+struct Replied<M: CellMemory> {
+    session: Session<M>,
+    end: usize,
+}
+
+// Replies to a frame, or to a line that is none, where there is room for the longest reply.
+fn reply<M: CellMemory>(
+    session: Session<M>,
+    frame: Result<Frame, Refusal>,
+    out: &mut [u8],
+    at: usize,
+) -> Replied<M>
+    requires { at + 32901 ≤ length out.old }
+    ensures { Written (session_of M.cells session) frame at out.old out.new result.end (session_of M.cells result.session) }
+{
+    let answered = answer(session, frame, out, at);
+    Replied {
+        session: answered.session,
+        // There is always an end.
+        end: answered.end.unwrap_or(at),
+    }
+}
+
+// A session after some bytes: how many were taken in, and where the replies end.
+#[derive(Drop)]
+struct TakenIn<M: CellMemory> {
+    session: Session<M>,
+    used: usize,
+    end: usize,
+}
+
+// Takes in bytes as long as the area has room for a reply, and replies to each line that ends.
+fn take_in<M: CellMemory + Drop>(
+    session: Session<M>,
+    held: &mut Held,
+    bytes: &[u8],
+    out: &mut [u8],
+) -> TakenIn<M>
+    requires { 32901 ≤ length out.old }
+    ensures carries { Carries (session_of M.cells session) held.old (take result.used bytes.now) held.new (take result.end out.new) (session_of M.cells result.session) }
+    ensures used { result.used ≤ length bytes.now }
+    ensures end { result.end ≤ length out.new }
+    ensures some { result.used ≡ 0 → length bytes.now ≡ 0 }
+{
+    let mut session = session;
+    let mut used = 0;
+    let mut end = 0;
+    while used < bytes.len() {
+        if out.len() - end < LONGEST {
+            return TakenIn { session, used, end };
+        }
+        let byte = bytes[used];
+        used += 1;
+        if byte == LINE_FEED {
+            let replied = reply(session, parse(held.as_slice()), out, end);
+            session = replied.session;
+            end = replied.end;
+            *held = Held::new();
+        } else {
+            held.push(byte);
+        }
+    }
+    TakenIn { session, used, end }
+}
+
+// Writes some bytes; none where that was interrupted.
+fn write_some<W: Write>(output: &mut W, bytes: &[u8]) -> io::Result<usize>
+    ensures bytes { WriteAppends (W.contents output.old) (W.contents output.new) result bytes.now }
+    ensures bound { IfOk result (λ n. n ≤ length bytes.now) }
+{
+    match output.write(bytes) {
+        Ok(0) => Err(io::Error::other("no byte was written")),
+        Ok(n) => Ok(n),
+        Err(e) if e.kind() == ErrorKind::Interrupted => Ok(0),
+        Err(e) => Err(e),
+    }
+}
+
+// Writes bytes, or a front of them where that fails. `write_all` says nothing of what it wrote before an error.
+fn write_whole<W: Write>(output: &mut W, bytes: &[u8]) -> io::Result<()>
+    ensures { GrowsByFront (W.contents output.old) (W.contents output.new) bytes.now result }
+{
+    let mut rest = bytes;
+    // A loop has to end.
+    for _ in 0..u64::MAX {
+        if rest.is_empty() {
+            return output.flush();
+        }
+        let n = write_some(output, rest)?;
+        rest = &rest[n..];
+    }
+    Err(io::Error::other("too many writes"))
+}
+
+// Takes in bytes and writes the replies to the lines that end.
+fn pass_on<M: CellMemory + Drop, W: Write>(
+    session: Session<M>,
+    held: &mut Held,
+    bytes: &[u8],
+    out: &mut [u8],
+    output: &mut W,
+) -> io::Result<Session<M>>
+    requires { 32901 ≤ length out.old }
+    ensures ok { IfOk result (λ next. Passes (session_of M.cells session) held.old bytes.now held.new (W.contents output.old) (W.contents output.new) (session_of M.cells next)) }
+    ensures err { IfErr result (λ e. Breaks (session_of M.cells session) held.old bytes.now (W.contents output.old) (W.contents output.new)) }
+{
+    let mut session = session;
+    let mut rest = bytes;
+    while !rest.is_empty() {
+        let taken = take_in(session, held, rest, out);
+        session = taken.session;
+        write_whole(output, &out[..taken.end])?;
+        rest = &rest[taken.used..];
+    }
+    Ok(session)
+}
+
+// Replies to the last line, which has no line feed, where there is one.
+fn finish<M: CellMemory + Drop, W: Write>(
+    session: Session<M>,
+    held: &Held,
+    out: &mut [u8],
+    output: &mut W,
+) -> io::Result<()>
+    requires { 32901 ≤ length out.old }
+    ensures { Finishes (session_of M.cells session) held.now (W.contents output.old) (W.contents output.new) result }
+{
+    let line = held.as_slice();
+    if line.is_empty() {
+        return Ok(());
+    }
+    let replied = reply(session, parse(line), out, 0);
+    write_whole(output, &out[..replied.end])
+}
+
+// How many bytes were read, and whether the input has ended.
+#[derive(Clone, Copy, PartialEq, Eq, Debug)]
+struct Got {
+    len: usize,
+    ended: bool,
+}
+
+// Reads some bytes; none where that was interrupted, or at the end.
+fn read_some<R: Read>(input: &mut R, chunk: &mut [u8]) -> io::Result<Got>
+    requires { 0 < length chunk.old }
+    ensures bytes { IfOk result (λ got. Consumes (R.remaining input.old) (R.remaining input.new) (take got.len chunk.new)) }
+    ensures bound { IfOk result (λ got. got.len ≤ length chunk.new) }
+    ensures end { IfOk result (λ got. got.ended ≡ true → (got.len ≡ 0) × IsAtEnd (R.remaining input.new)) }
+    ensures err { IfErr result (λ e. Keeps (R.remaining input.old) (R.remaining input.new)) }
+{
+    match input.read(chunk) {
+        Ok(len) => Ok(Got {
+            len,
+            ended: len == 0,
+        }),
+        Err(e) if e.kind() == ErrorKind::Interrupted => Ok(Got {
+            len: 0,
+            ended: false,
+        }),
+        Err(e) => Err(e),
+    }
+}
+
+/// Reads lines to the end of the input and writes the reply to each. A line of any length is read, and no heap is needed. The
+/// replies to all lines that were read are written before more is read. Nothing is open at the start.
+pub fn serve_lines<M: CellMemory + Drop, R: Read, W: Write>(
+    memory: M,
+    input: &mut R,
+    output: &mut W,
+) -> Result<(), ServeError>
+    ensures { Serves (Waiting (M.cells memory)) (R.remaining input.old) (R.remaining input.new) (W.contents output.old) (W.contents output.new) result }
+{
+    let mut session = Session::Closed(memory);
+    let mut held = Held::new();
+    let mut chunk = [0; 4096];
+    // Room for the replies to the lines of a chunk that ask for no page, and for a page.
+    let mut out = [0; 41093];
+    // A loop has to end.
+    for _ in 0..u64::MAX {
+        let got = match read_some(input, &mut chunk) {
+            Ok(got) => got,
+            Err(e) => return Err(ServeError::Read(e)),
+        };
+        if got.ended {
+            return match finish(session, &held, &mut out, output) {
+                Ok(()) => Ok(()),
+                Err(e) => Err(ServeError::Write(e)),
+            };
+        }
+        session = match pass_on(session, &mut held, &chunk[..got.len], &mut out, output) {
+            Ok(next) => next,
+            Err(e) => return Err(ServeError::Write(e)),
+        };
+    }
+    Err(ServeError::Read(io::Error::other("too many reads")))
+}
