@@ -9,8 +9,8 @@ use layout::sizes::Sizes;
 use places::place::{Job, ServedPair, Survey};
 use std::ops::ControlFlow;
 
-// The answer of a finished page.
-fn survey_done(survey: Survey) -> Answer
+/// The answer of a finished page.
+pub fn survey_done(survey: Survey) -> Answer
     ensures { result ≡ survey_done survey }
 {
     match survey {
@@ -69,8 +69,8 @@ impl Book {
         None
     }
 
-    // On to the next pair to walk, from the one of the key at a position and key `to` on, or the answer.
-    pub(crate) fn serve(
+    /// On to the next pair to walk, from the one of the key at a position and key `to` on, or the answer.
+    pub fn serve(
         &self,
         survey: Survey,
         sizes: Sizes,

@@ -32,8 +32,8 @@ impl Place {
         None
     }
 
-    // On to settling a field.
-    pub(crate) fn settle(&mut self, purpose: Purpose) -> Option<Answer>
+    /// On to settling a field.
+    pub fn settle(&mut self, purpose: Purpose) -> Option<Answer>
         ensures { flow_of self.new result ≡ first purpose }
     {
         self.go(Place::Settle {
@@ -67,8 +67,8 @@ impl Place {
         }
     }
 
-    // After checking again.
-    pub(crate) fn checked(&mut self, op: Op, bound: Bound, found: Found) -> Option<Answer>
+    /// What follows when both rows of a bound edge were checked again: the answer, or on to the link.
+    pub fn checked(&mut self, op: Op, bound: Bound, found: Found) -> Option<Answer>
         ensures { flow_of self.new result ≡ checked op bound found }
     {
         match (op, found) {
@@ -114,8 +114,8 @@ impl Place {
         }
     }
 
-    // There is no row, or it has ended.
-    pub(crate) fn absent(&mut self, look: Look, head: u32) -> Option<Answer>
+    /// What follows when a look finds no row, or one that has ended.
+    pub fn absent(&mut self, look: Look, head: u32) -> Option<Answer>
         ensures { flow_of self.new result ≡ absent look head }
     {
         match look {
@@ -128,8 +128,8 @@ impl Place {
         }
     }
 
-    // The row's del is settled.
-    pub(crate) fn looked(&mut self, look: Look, row: u32, hand: Hand, del: Mark) -> Option<Answer>
+    /// What follows when the del of a row that is looked at is settled.
+    pub fn looked(&mut self, look: Look, row: u32, hand: Hand, del: Mark) -> Option<Answer>
         ensures { flow_of self.new result ≡ looked look row hand del }
     {
         if del.is_ended() {
@@ -139,14 +139,8 @@ impl Place {
         }
     }
 
-    // The worker's own change bears its stamp.
-    pub(crate) fn owned(
-        &mut self,
-        change: Change,
-        field: Field,
-        row: u32,
-        mark: Mark,
-    ) -> Option<Answer>
+    /// What follows when the worker's own change bears its stamp.
+    pub fn owned(&mut self, change: Change, field: Field, row: u32, mark: Mark) -> Option<Answer>
         ensures { flow_of self.new result ≡ owned field change row mark }
     {
         match (change, field) {
@@ -163,8 +157,8 @@ impl Place {
         }
     }
 
-    // Another worker's end of the row bears its stamp.
-    pub(crate) fn lost_to(&mut self, change: Change, row: u32) -> Option<Answer>
+    /// What follows when another worker's end of the row bears its stamp.
+    pub fn lost_to(&mut self, change: Change, row: u32) -> Option<Answer>
         ensures { flow_of self.new result ≡ lost_to change row }
     {
         match change {

@@ -21,7 +21,8 @@ impl Survey {
 }
 
 impl Place {
-    pub(crate) fn head_read(&mut self, walk: Walk, row: u32) -> TurnOutcome
+    /// What follows when a walk has read its head: no row ends the walk.
+    pub fn head_read(&mut self, walk: Walk, row: u32) -> TurnOutcome
         ensures { next_from self.new result ≡ walked_head walk row }
     {
         match row {
@@ -34,8 +35,8 @@ impl Place {
         }
     }
 
-    // The row's ins is settled: a row above t leads to the older one.
-    pub(crate) fn ins_read(&mut self, walk: Walk, row: u32, hand: Hand, ins: Mark) -> TurnOutcome
+    /// What follows when the ins of a walked row is settled: a row above t leads to the older one.
+    pub fn ins_read(&mut self, walk: Walk, row: u32, hand: Hand, ins: Mark) -> TurnOutcome
         ensures { next_from self.new result ≡ walked_ins walk row hand ins }
     {
         match ins {
@@ -59,8 +60,8 @@ impl Place {
         }
     }
 
-    // The row's del is settled: the row is visible if it has not ended at t.
-    pub(crate) fn del_read(&self, walk: Walk, row: u32, hand: Hand, del: Mark) -> TurnOutcome
+    /// What follows when the del of a walked row is settled: the row is visible if it has not ended at t.
+    pub fn del_read(&self, walk: Walk, row: u32, hand: Hand, del: Mark) -> TurnOutcome
         ensures { next_from self.now result ≡ walked_del walk row hand del }
     {
         match del {

@@ -8,7 +8,7 @@ mod named;
 pub mod open;
 pub mod page_cells;
 pub mod pages;
-mod perform;
+pub mod perform;
 pub mod questions_to_pages;
 pub mod run;
 pub mod several;

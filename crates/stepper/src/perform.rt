@@ -38,8 +38,9 @@ fn link<M: CellMemory>(memory: &mut M, sizes: Sizes, change: Change, head: u32, 
     swap(memory, sizes, Cell::Head(change.head()), head, row)
 }
 
-// Does one touch, and says what it gave. One arm for each clause of `got_of`, so a match and no table of closures.
-pub(crate) fn perform<M: CellMemory>(memory: &mut M, sizes: Sizes, touch: Touch) -> Got
+/// Does one touch of a shared cell, and says what it gave.
+// One arm for each clause of `got_of`, so a match and no table of closures.
+pub fn perform<M: CellMemory>(memory: &mut M, sizes: Sizes, touch: Touch) -> Got
     ensures answer { result ≡ got_of sizes (M.cells memory.old) touch }
     ensures after { M.cells memory.new ≡ cells_after sizes (M.cells memory.old) touch }
     ensures spare { M.spare memory.new ≡ M.spare memory.old }
@@ -54,8 +55,9 @@ pub(crate) fn perform<M: CellMemory>(memory: &mut M, sizes: Sizes, touch: Touch)
     }
 }
 
-// Writes into a worker's page. One arm for each clause of `entered`, so a match and no table of closures.
-pub(crate) fn enter<M: CellMemory>(memory: &mut M, sizes: Sizes, w: u8, entry: Entry)
+/// Writes into the page of worker `w`, counted from 0.
+// One arm for each clause of `entered`, so a match and no table of closures.
+pub fn enter<M: CellMemory>(memory: &mut M, sizes: Sizes, w: u8, entry: Entry)
     ensures after { M.cells memory.new ≡ entered sizes w (M.cells memory.old) entry }
     ensures spare { M.spare memory.new ≡ M.spare memory.old }
     ensures name { M.name memory.new ≡ M.name memory.old }

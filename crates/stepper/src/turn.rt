@@ -36,8 +36,8 @@ impl<M: CellMemory> Run<M> {
         advance(&mut self.memory, &mut self.table, index)
     }
 
-    // The index of a worker that is in a call, or why its turn is refused.
-    pub(crate) fn busy_worker(&self, w: u8) -> Result<WorkerIndex, Refusal>
+    /// The index of worker `w`, counted from 0, where it is in a call; else why its turn is refused: `NoSuchWorker` or `WorkerIdle`.
+    pub fn busy_worker(&self, w: u8) -> Result<WorkerIndex, Refusal>
         ensures answer { result_err result ≡ turn_refused (state_of M.cells self.now) w }
         ensures index { IfOk result (λ i. i.index ≡ w) }
     {
