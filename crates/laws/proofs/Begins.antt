@@ -53,7 +53,7 @@ module _ (s : State) (b : Begin) where
     pub begun_each : (P : ℕ → Worker → Type 0) → P b.worker (begun (worker_at s b.worker) c) → ((v : ℕ) → P v (worker_at s v)) → (v : ℕ) → P v (worker_at (state_begun s b.worker (Ok c)) v)
     begun_each P here there = set_each P s.workers w (begun (worker_at s w) c) nobody (omega (arith, z.table, fits.0)) here (λ v m. there v)
 
-    count_same : (v : ℕ) (k : Kind) → linked_of (worker_at t v) k ≡ linked_of (worker_at s v) k
+    pub count_same : (v : ℕ) (k : Kind) → linked_of (worker_at t v) k ≡ linked_of (worker_at s v) k
     count_same v k = begun_each (λ u r. linked_of r k ≡ linked_of (worker_at s u) k) refl (λ u. refl) v
 
     later_begun : Later s t

@@ -67,17 +67,17 @@ module _ (s : State) (w : ℕ) (z : Sound s) (b : w < s.sizes.workers) where
   pub record_each : (P : ℕ → Worker → Type 0) → P w (followed_at s w).worker → ((v : ℕ) → P v (worker_at s v)) → (v : ℕ) → P v (worker_at (turned s w) v)
   record_each P here there = set_each P s.workers w (followed_at s w).worker nobody in_table here (λ v n. there v)
 
-  own_count : (k : Kind) → linked_of (followed_at s w).worker k ≡ count_after (next_at s w) k (linked_of own k)
+  pub own_count : (k : Kind) → linked_of (followed_at s w).worker k ≡ count_after (next_at s w) k (linked_of own k)
   own_count k = followed_count s.sizes.keys own (hand_at s w) (next_at s w) k
 
   -- the turn that linked row r for change c
-  record LinkingTurn (c : Change) (r : ℕ) : Type 0 where
+  pub record LinkingTurn (c : Change) (r : ℕ) : Type 0 where
     pub over : ℕ
     pub at_link : own.place ≡ place.Link c over
     pub fits : FitPlace s (place.Link c over)
     pub own : next_own s w (change_kind c) ≡ Some r
 
-  linking : (c : Change) (r : ℕ) → next_at s w ≡ next.Linked c r → LinkingTurn c r
+  pub linking : (c : Change) (r : ℕ) → next_at s w ≡ next.Linked c r → LinkingTurn c r
   linking c r e =
       let l : LinkTurn own.place (hand_at s w) c r = subst (Follows own.place (hand_at s w)) e (follows own.place (hand_at s w) (got_of s.sizes s.cells (touch_at s w))) in
       let same : (hand_at s w).spare ≡ next_own s w (change_kind c) = ap (λ p. spare_for s.sizes w own (link_kind p)) l.place in
@@ -104,7 +104,7 @@ module _ (s : State) (w : ℕ) (z : Sound s) (b : w < s.sizes.workers) where
       (head_changes s w fit h x y c)
 
   -- a linked row was linked at the head that was read, and is the head now
-  new_linked : (c : Change) (r : ℕ) → next_at s w ≡ next.Linked c r → Linked t (change_kind c) r
+  pub new_linked : (c : Change) (r : ℕ) → next_at s w ≡ next.Linked c r → Linked t (change_kind c) r
   new_linked c r e =
       let l = linking c r e in
       at_head (change_head c) r (change_named s c l.fits.0) refl (new_head s w c l.over z.cells l.fits.0 r l.own l.at_link e) (next_own_lem s w (change_kind c) r l.own).0

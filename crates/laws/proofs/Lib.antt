@@ -23,3 +23,4 @@ mod Places
 mod Stamped
 mod Moments
 pub mod StampRuns
+mod CountedRows

@@ -4,3 +4,4 @@ pub mod Clean
 pub mod Laws
 pub mod Sound
 pub mod Stamps
+pub mod CountedRows

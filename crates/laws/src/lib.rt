@@ -2,6 +2,7 @@
 #![tactic(auto)]
 
 ghost use Rattle.laws.specs.Clean.{OpeningsClean};
+ghost use Rattle.laws.specs.CountedRows.{CountedRowsLinked, CountedRowsSound, RunsLinkCounted};
 ghost use Rattle.laws.specs.Laws.{TurnsKeepLaws};
 ghost use Rattle.laws.specs.Sound.{RunsKeepLaws, RunsSound};
 ghost use Rattle.laws.specs.Stamps.{RunsStamp};
@@ -29,4 +30,19 @@ pub fn runs_keep_laws()
 /// In every run the clock keeps its limits, and ins and del of a linked row get at most one stamp each, which stays.
 pub fn runs_stamp()
     ensures { RunsStamp }
+{}
+
+/// A run from a clean state in which each row that its owner counts is linked keeps it so.
+pub fn runs_link_counted()
+    ensures { RunsLinkCounted }
+{}
+
+/// In every run from an opening each row that its owner counts is linked.
+pub fn counted_rows_linked()
+    ensures { CountedRowsLinked }
+{}
+
+/// So what every run from an opening keeps of linked rows holds of each row that its owner counts.
+pub fn counted_rows_sound()
+    ensures { CountedRowsSound }
 {}
