@@ -3,7 +3,6 @@ use Rattle.std.proofs.Common.{◌≡◌, ℕ, ◌+◌, ◌<◌, cond, Some, Ok, 
 use Rattle.std.proofs.lemmas.Bool.{cases_eq}
 use Rattle.layout.specs.declared.names.Kind.{Kind}
 use Rattle.layout.specs.declared.names.Kind.TheVariants.{Vertex, Edge}
-use Rattle.layout.specs.declared.names.Cell.TheVariants as cell
 use Rattle.layout.specs.Rows.{row_at}
 use Rattle.places.specs.declared.call.Begin.{Begin}
 use Rattle.places.specs.declared.place.Call.{Call}
@@ -14,10 +13,12 @@ use Rattle.machine.specs.Opening.{opened_state}
 use Rattle.machine.specs.Workers.{fresh, nobody, linked_of}
 use Rattle.machine.specs.Turns.{worker_at, next_at, turned}
 use Rattle.machine.specs.Requests.{call_to_begin, state_begun}
-use Rattle.laws.specs.Fits.{Linked}
-use Rattle.laws.specs.Changes.{next_own, number_in}
+use Rattle.laws.specs.Fits.{Linked, Counted}
+use Rattle.laws.specs.Changes.{next_own}
 use Rattle.laws.specs.Sound.{Sound}
 use Rattle.laws.specs.CountedRows.{CountedLinked, RunsLinkCounted, CountedRowsLinked, CountedRowsSound}
+use Rattle.laws.proofs.Stays.{turns_keep_counted}
+use Rattle.laws.proofs.Grows.{LaterBy, row_later, place_later}
 use Rattle.laws.proofs.Counts.{same_kind, count_after}
 use Rattle.laws.proofs.Keeps.{record_each, own_count, linking, new_linked, later}
 use Rattle.laws.proofs.Begins.{count_same}
@@ -97,8 +98,13 @@ counted_rows_sound z cs e h s t =
     let c = counted_rows_linked z cs e h s t in
     let k = runs_sound (opened_state cs z) start h s t in
     let l = runs_stamp (opened_state cs z) start h s t in
+    let same : LaterBy Linked Counted s s = record { sizes = refl; linked = k.counted; some = λ h m p. p } in
+    let places = λ (w : ℕ) (b : w < s.sizes.workers). place_later s s same (worker_at s w).place (k.places w b) in
     record {
-      olders = λ j r x. ⊎_elim (λ (n : number_in s (cell.Older j r) ≡ 0). inl n) (λ (o : Linked s j (number_in s (cell.Older j r))). inr (k.counted j (number_in s (cell.Older j r)) o)) (k.olders j r (c j r x));
+      heads = λ g m. row_later s s same _ _ (k.heads g m);
+      olders = λ j r x. row_later s s same j _ (k.olders j r (c j r x));
+      places = places;
+      laws = λ w b. turns_keep_counted s w b k.cells (places w b);
       fields = λ j f r x. l.fields j f r (c j r x);
       turns = λ w b j f r x. l.turns w b j f r (c j r x);
       starts = λ w b j f r n x. l.starts w b j f r (λ o. n (k.counted j r o)) (turn_counted s w k b c j r x);

@@ -1,5 +1,6 @@
 -- What a turn of a place that fits enters into the page has keys of the opening.
 use Rattle.std.proofs.Common.{rules, ℕ, Option, subst}
+use Rattle.layout.specs.declared.names.Kind.{Kind}
 use Rattle.places.specs.declared.place.Survey.{Survey}
 use Rattle.places.specs.declared.place.ServedPair.{ServedPair}
 use Rattle.places.specs.declared.place.Job.{Job}
@@ -17,16 +18,16 @@ use Rattle.books.specs.Walked.{resolved, walked_at}
 use Rattle.machine.specs.declared.worker.Worker.{Worker}
 use Rattle.machine.specs.States.{State}
 use Rattle.machine.specs.Workers.{followed}
-use Rattle.laws.specs.Fits.{FitServedPair, FitJob, FitPlace}
+use Rattle.laws.specs.Fits.{Linked, FitServedPair, FitJob, FitPlaceBy, FitPlace}
 use Rattle.laws.proofs.Follows.{AtWalk, Follows, follows}
 use Rattle.laws.proofs.Pages.{FitEntry}
 
 -- the keys of a walk are keys
-place_job : (s : State) (p : Place) (k : Walk) → FitPlace s p → AtWalk p k → FitJob s k.job
-place_job s (place.Settle st (purpose.Walk g j r)) k f a = subst (λ u. FitJob s u.job) a f.0
-place_job s (place.WalkHead j) k f a = subst (λ u. FitJob s u.job) a f
-place_job s (place.WalkOlder j r) k f a = subst (λ u. FitJob s u.job) a f.0
-place_job s p k f a = absurd a
+place_job : (L : State → Kind → ℕ → Type 0) (s : State) (p : Place) (k : Walk) → FitPlaceBy L s p → AtWalk p k → FitJob s k.job
+place_job L s (place.Settle st (purpose.Walk g j r)) k f a = subst (λ u. FitJob s u.job) a f.0
+place_job L s (place.WalkHead j) k f a = subst (λ u. FitJob s u.job) a f
+place_job L s (place.WalkOlder j r) k f a = subst (λ u. FitJob s u.job) a f.0
+place_job L s p k f a = absurd a
 
 resolved_entry : (s : State) (b : Book) (v : Survey) (n : ℕ) (l : ServedPair) (h : Hand) → FitServedPair s l → FitEntry s.sizes (resolved b v n l h).entry
 resolved_entry s b v n l h f = search rules
@@ -37,9 +38,13 @@ walked_at_entry s b v (job.Start i) n r h f = search rules
 walked_at_entry s b v (job.Pair l) n r h f = search (rules, resolved_entry)
 walked_at_entry s b v (job.Target l e) n r h f = resolved_entry s (with_row b l.to r) v n l h f
 
-followed_entry : (s : State) (n : ℕ) (v : Worker) (h : Hand) (x : Next) → FitPlace s v.place → Follows v.place h x → FitEntry s.sizes (followed n v h x).entry
-followed_entry s n v h (next.Walked k r) f a = walked_at_entry s v.book k.survey k.job n r h (place_job s v.place k f a)
-followed_entry s n v h x f a = tt
+module _ (L : State → Kind → ℕ → Type 0) (s : State) (n : ℕ) (v : Worker) (h : Hand) where
+  followed_entry : (x : Next) → FitPlaceBy L s v.place → Follows v.place h x → FitEntry s.sizes (followed n v h x).entry
+  followed_entry (next.Walked k r) f a = walked_at_entry s v.book k.survey k.job n r h (place_job L s v.place k f a)
+  followed_entry x f a = tt
+
+  pub entry_fits_by : (g : Option ℕ) → FitPlaceBy L s v.place → FitEntry s.sizes (followed n v h (next_of v.place h g)).entry
+  entry_fits_by g f = followed_entry (next_of v.place h g) f (follows v.place h g)
 
 pub entry_fits : (s : State) (n : ℕ) (v : Worker) (h : Hand) (g : Option ℕ) → FitPlace s v.place → FitEntry s.sizes (followed n v h (next_of v.place h g)).entry
-entry_fits s n v h g f = followed_entry s n v h (next_of v.place h g) f (follows v.place h g)
+entry_fits s n v h g f = entry_fits_by Linked s n v h g f

@@ -18,6 +18,10 @@ pub linked_row : (s : State) (k : Kind) (r : ℕ) → Linked s k r → IsRow s.s
 linked_row s k r (at_head h _ n e f l) = l
 linked_row s k r (below q _ x f l) = l
 
+-- and so is a counted one
+pub counted_row : (s : State) (k : Kind) (r : ℕ) → Counted s k r → IsRow s.sizes k r
+counted_row s k r x = (own_row s.sizes k x.owner x.nth r x.is).0
+
 few_rows : (z : Sizes) (k : Kind) → rows_each z k ≤ 2048
 few_rows z Vertex = omega arith
 few_rows z Edge = omega arith

@@ -5,7 +5,7 @@ use Rattle.layout.specs.declared.names.Kind.{Kind}
 use Rattle.layout.specs.declared.names.Kind.TheVariants.{Edge}
 use Rattle.layout.specs.declared.names.Cell.{Cell}
 use Rattle.layout.specs.declared.names.Cell.TheVariants as cell
-use Rattle.layout.specs.Layout.{Named}
+use Rattle.layout.specs.Layout.{Named, IsRow}
 use Rattle.layout.specs.Rows.{Owns}
 use Rattle.layout.proofs.Owners.{one_owner}
 use Rattle.places.specs.declared.place.Change.{Change}
@@ -27,14 +27,14 @@ use Rattle.machine.specs.Effects.{got_of, cells_after, entered}
 use Rattle.machine.specs.Turns.{worker_at, cell_at, hand_at, touch_at, next_at, followed_at, turned}
 use Rattle.machine.specs.Workers.{nobody, followed}
 use Rattle.machine.specs.declared.worker.Worker.{Worker}
-use Rattle.laws.specs.Fits.{Linked, FitPlace, Fit}
+use Rattle.laws.specs.Fits.{FitPlaceBy, FitBy}
 use Rattle.laws.specs.Changes.{OnPage, OfRow, Surveys, next_own, number_in, Changes, Changes.keeps, Changes.ticks, Changes.links, Changes.stamps, Changes.ends, Changes.fills, Changes.writes}
-use Rattle.laws.specs.Laws.{Stays, TurnsKeepLaws}
+use Rattle.laws.specs.Laws.{Stays, TurnLawsBy, TurnsKeepLaws, TurnsKeepCounted}
 use Rattle.laws.proofs.Pages.{entered_at}
 use Rattle.laws.proofs.Follows.{AtWalk, Follows, follows}
-use Rattle.laws.proofs.Entries.{entry_fits}
-use Rattle.laws.proofs.Owned.{next_own_lem, next_unused}
-use Rattle.laws.proofs.Touched.{Settled, settled_field_lem, touched_at, enough_after}
+use Rattle.laws.proofs.Entries.{entry_fits_by}
+use Rattle.laws.proofs.Owned.{counted_row, next_own_lem, next_unused}
+use Rattle.laws.proofs.Touched.{SettledBy, settled_by, touched_at, enough_after}
 
 at_survey : (p : Place) (k : Walk) → AtWalk p k → Surveys p
 at_survey (place.Settle st (purpose.Walk f j r)) k a = tt
@@ -49,16 +49,20 @@ enters p n v h (next.Linked c r) a = inl refl
 enters p n v h (next.Raised s t) a = inr (subst Surveys (sym a) tt)
 enters p n v h (next.Walked k r) a = inr (at_survey p k a)
 
-pub turn_changes : (s : State) (w : ℕ) → Fit s w → (c : Cell) → Named s.sizes c → Changes s w c (number_in s c) (number_in (turned s w) c)
-turn_changes s w f c m =
-    let touched = touched_at s w c (worker_at s w).place refl m f.cells f.place in
-    ⊎_elim (λ (e : (followed_at s w).entry ≡ entry.Nothing). subst (λ e. Changes s w c (number_in s c) (cell_at s.sizes (entered s.sizes w (cells_after s.sizes s.cells (touch_at s w)) e) c)) (sym e) touched)
-    (λ (q : Surveys (worker_at s w).place).
-    entered_at s.sizes (λ y. Changes s w c (number_in s c) y) (cells_after s.sizes s.cells (touch_at s w)) w (followed_at s w).entry c m
-    (enough_after s.sizes s.cells (touch_at s w) f.cells) f.worker
-    (entry_fits s s.sizes.keys (worker_at s w) (hand_at s w) (got_of s.sizes s.cells (touch_at s w)) f.place)
-    (λ o y. writes o q) touched)
-    (enters (worker_at s w).place s.sizes.keys (worker_at s w) (hand_at s w) (next_at s w) (follows (worker_at s w).place (hand_at s w) (got_of s.sizes s.cells (touch_at s w))))
+module _ {L : State → Kind → ℕ → Type 0} (s : State) (w : ℕ) (f : FitBy L s w) where
+  linked_is_row : (k : Kind) (r : ℕ) → L s k r → IsRow s.sizes k r
+  linked_is_row k r l = counted_row s k r (f.counted k r l)
+
+  pub turn_changes : (c : Cell) → Named s.sizes c → Changes s w c (number_in s c) (number_in (turned s w) c)
+  turn_changes c m =
+      let touched = touched_at L s linked_is_row w c (worker_at s w).place refl m f.cells f.place in
+      ⊎_elim (λ (e : (followed_at s w).entry ≡ entry.Nothing). subst (λ e. Changes s w c (number_in s c) (cell_at s.sizes (entered s.sizes w (cells_after s.sizes s.cells (touch_at s w)) e) c)) (sym e) touched)
+      (λ (q : Surveys (worker_at s w).place).
+      entered_at s.sizes (λ y. Changes s w c (number_in s c) y) (cells_after s.sizes s.cells (touch_at s w)) w (followed_at s w).entry c m
+      (enough_after s.sizes s.cells (touch_at s w) f.cells) f.worker
+      (entry_fits_by L s s.sizes.keys (worker_at s w) (hand_at s w) (got_of s.sizes s.cells (touch_at s w)) f.place)
+      (λ o y. writes o q) touched)
+      (enters (worker_at s w).place s.sizes.keys (worker_at s w) (hand_at s w) (next_at s w) (follows (worker_at s w).place (hand_at s w) (got_of s.sizes s.cells (touch_at s w))))
 
 -- a cell is of a row or on a page, and not both
 pub row_no_page : (k : Kind) (r v : ℕ) (c : Cell) → OfRow k r c → OnPage v c → ⊥
@@ -84,19 +88,19 @@ abbrev NoStamp : Cell → Type 0
 NoStamp (cell.Stamp k f r) = ⊥
 NoStamp c = Unit {0}
 
-module _ (s : State) (w : ℕ) (f : Fit s w) where
+module _ {L : State → Kind → ℕ → Type 0} (s : State) (w : ℕ) (f : FitBy L s w) where
   -- what a worker settles or ends is a field of a linked row
-  pub settled_of : (p : Purpose) (y : ℕ) → (worker_at s w).place ≡ place.Settle (Swap y) p → Settled s p
-  settled_of p y e = settled_field_lem s p (subst (FitPlace s) e f.place)
+  pub settled_of : (p : Purpose) (y : ℕ) → (worker_at s w).place ≡ place.Settle (Swap y) p → SettledBy L s p
+  settled_of p y e = settled_by L s (linked_is_row s w f) p (subst (FitPlaceBy L s) e f.place)
 
-  ended_of : (d : Change) (r : ℕ) → (worker_at s w).place ≡ place.End d r → Linked s (change_kind d) r
-  ended_of d r e = let g : FitPlace s (place.End d r) = subst (FitPlace s) e f.place in g.1.linked
+  ended_of : (d : Change) (r : ℕ) → (worker_at s w).place ≡ place.End d r → L s (change_kind d) r
+  ended_of d r e = let g : FitPlaceBy L s (place.End d r) = subst (FitPlaceBy L s) e f.place in g.1.linked
 
   -- a cell that a turn has no way to change
   pub record Safe (c : Cell) : Type 0 where
     pub no_clock : c ≡ cell.Clock → ⊥
     pub no_head : (h : Head) → c ≡ cell.Head h → ⊥
-    pub no_field : (k : Kind) (g : Field) (r : ℕ) → c ≡ cell.Stamp k g r → Linked s k r → ⊥
+    pub no_field : (k : Kind) (g : Field) (r : ℕ) → c ≡ cell.Stamp k g r → L s k r → ⊥
     pub no_fill : (k : Kind) (r : ℕ) → next_own s w k ≡ Some r → OfRow k r c → ⊥
     pub no_page : OnPage w c → ⊥
 
@@ -157,10 +161,10 @@ module _ (s : State) (w : ℕ) (f : Fit s w) where
       let mine : Owns s.sizes k w r = subst (λ (x : Kind). Owns s.sizes x w r) (sym e.0) (subst (Owns s.sizes l w) (sym e.1) (next_own_lem s w l q p).1) in
       n (one_owner s.sizes k v w r a mine)
 
-  linked_from : (k l : Kind) (r q : ℕ) → (k ≡ l) × (r ≡ q) → Linked s l q → Linked s k r
-  linked_from k l r q e i = subst (λ (x : Kind). Linked s x r) (sym e.0) (subst (Linked s l) (sym e.1) i)
+  linked_from : (k l : Kind) (r q : ℕ) → (k ≡ l) × (r ≡ q) → L s l q → L s k r
+  linked_from k l r q e i = subst (λ (x : Kind). L s x r) (sym e.0) (subst (L s l) (sym e.1) i)
 
-  row_safe : (v : ℕ) (k : Kind) (r : ℕ) (c : Cell) → OfRow k r c → Owns s.sizes k v r → ¬ (v ≡ w) → ¬ (Linked s k r) → Safe c
+  row_safe : (v : ℕ) (k : Kind) (r : ℕ) (c : Cell) → OfRow k r c → Owns s.sizes k v r → ¬ (v ≡ w) → ¬ (L s k r) → Safe c
   row_safe v k r c o a n u = record {
     no_clock = λ e. subst (OfRow k r) e o;
     no_head = λ h e. subst (OfRow k r) e o;
@@ -170,7 +174,7 @@ module _ (s : State) (w : ℕ) (f : Fit s w) where
   }
 
   -- a cell of a linked row that holds no stamp
-  fixed_safe : (k : Kind) (r : ℕ) (c : Cell) → OfRow k r c → NoStamp c → Linked s k r → Safe c
+  fixed_safe : (k : Kind) (r : ℕ) (c : Cell) → OfRow k r c → NoStamp c → L s k r → Safe c
   fixed_safe k r c o n i = record {
     no_clock = λ e. subst (OfRow k r) e o;
     no_head = λ h e. subst (OfRow k r) e o;
@@ -179,8 +183,8 @@ module _ (s : State) (w : ℕ) (f : Fit s w) where
     no_page = λ b. row_no_page k r w c o b;
   }
 
-pub turn_laws : TurnsKeepLaws
-turn_laws s w f = record {
+turn_laws_by : {L : State → Kind → ℕ → Type 0} (s : State) (w : ℕ) → FitBy L s w → TurnLawsBy L s w
+turn_laws_by s w f = record {
   changes = turn_changes s w f;
   clock = clock_rises s w f _ _ (turn_changes s w f cell.Clock tt);
   records = λ v n. get_or-set_other s.workers w v (followed_at s w).worker nobody n;
@@ -191,3 +195,9 @@ turn_laws s w f = record {
   target = λ r m i. stays s w f (cell.Target r) m (fixed_safe s w f Edge r (cell.Target r) (refl, refl) tt i);
   weight = λ r m i. stays s w f (cell.Weight r) m (fixed_safe s w f Edge r (cell.Weight r) (refl, refl) tt i);
 }
+
+pub turn_laws : TurnsKeepLaws
+turn_laws s w f = turn_laws_by s w f
+
+pub turns_keep_counted : TurnsKeepCounted
+turns_keep_counted s w b e p = turn_laws_by s w (record { worker = b; cells = e; counted = λ k r x. x; place = p })

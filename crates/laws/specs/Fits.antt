@@ -47,43 +47,11 @@ pub record Counted (s : State) (k : Kind) (r : ℕ) : Type 0 where
 abbrev pub IsKey : State → ℕ → Type 0
 IsKey s i = i < s.sizes.keys
 
--- a linked row of a head that is not none
-pub record Held (s : State) (h : Head) (r : ℕ) : Type 0 where
-  pub linked : Linked s (head_kind h) r
-  pub some : 0 < cell_at s.sizes s.cells (cell.Head h)
-
--- no row, or a linked one
-abbrev pub RowOrNone : State → Kind → ℕ → Type 0
-RowOrNone s k r = (r ≡ no_row) ⊎ Linked s k r
-
-abbrev pub HeldOrNone : State → Head → ℕ → Type 0
-HeldOrNone s h r = (r ≡ no_row) ⊎ Held s h r
-
 abbrev pub FitPair : State → Pair → Type 0
 FitPair s p = IsKey s p.from × IsKey s p.to
 
--- an edge between keys, bound to linked rows
-pub record FitBound (s : State) (b : Bound) : Type 0 where
-  pub keys : FitPair s b.pair
-  pub source : Linked s Vertex b.source
-  pub target : Linked s Vertex b.target
-
 abbrev pub pair_head : Pair → Head
 pair_head p = head.Edge p.from p.to
-
-abbrev pub FitLook : State → Look → Type 0
-FitLook s (look.Vertex o i) = IsKey s i
-FitLook s (look.Source o p) = FitPair s p
-FitLook s (look.Target o p r) = FitPair s p × Linked s Vertex r
-FitLook s (look.Edge o b) = FitBound s b
-
-abbrev pub FitChange : State → Change → Type 0
-FitChange s (change.Vertex i) = IsKey s i
-FitChange s (change.Edge b) = FitBound s b
-
-abbrev pub FitFound : State → Pair → Result ℕ ℕ → Type 0
-FitFound s p (Ok e) = Held s (pair_head p) e
-FitFound s p (Err h) = HeldOrNone s (pair_head p) h
 
 abbrev pub FitSurvey : State → Survey → Type 0
 FitSurvey s Snapshot = Unit {0}
@@ -98,32 +66,97 @@ FitJob s (job.Start i) = IsKey s i
 FitJob s (job.Pair l) = FitServedPair s l
 FitJob s (job.Target l e) = FitServedPair s l
 
--- the row whose field is settled is linked
+-- L says which rows of a kind are linked in a state: Linked does, and so does Counted
+module _ (L : State → Kind → ℕ → Type 0) where
+  -- a linked row of a head that is not none
+  pub record HeldBy (s : State) (h : Head) (r : ℕ) : Type 0 where
+    pub linked : L s (head_kind h) r
+    pub some : 0 < cell_at s.sizes s.cells (cell.Head h)
+
+  -- no row, or a linked one
+  abbrev pub RowOrNoneBy : State → Kind → ℕ → Type 0
+  RowOrNoneBy s k r = (r ≡ no_row) ⊎ L s k r
+
+  abbrev pub HeldOrNoneBy : State → Head → ℕ → Type 0
+  HeldOrNoneBy s h r = (r ≡ no_row) ⊎ HeldBy s h r
+
+  -- an edge between keys, bound to linked rows
+  pub record FitBoundBy (s : State) (b : Bound) : Type 0 where
+    pub keys : FitPair s b.pair
+    pub source : L s Vertex b.source
+    pub target : L s Vertex b.target
+
+  abbrev pub FitLookBy : State → Look → Type 0
+  FitLookBy s (look.Vertex o i) = IsKey s i
+  FitLookBy s (look.Source o p) = FitPair s p
+  FitLookBy s (look.Target o p r) = FitPair s p × L s Vertex r
+  FitLookBy s (look.Edge o b) = FitBoundBy s b
+
+  abbrev pub FitChangeBy : State → Change → Type 0
+  FitChangeBy s (change.Vertex i) = IsKey s i
+  FitChangeBy s (change.Edge b) = FitBoundBy s b
+
+  abbrev pub FitFoundBy : State → Pair → Result ℕ ℕ → Type 0
+  FitFoundBy s p (Ok e) = HeldBy s (pair_head p) e
+  FitFoundBy s p (Err h) = HeldOrNoneBy s (pair_head p) h
+
+  -- the row whose field is settled is linked
+  abbrev pub FitPurposeBy : State → Purpose → Type 0
+  FitPurposeBy s (purpose.Look f l r) = FitLookBy s l × HeldBy s (look_head l) r
+  FitPurposeBy s (purpose.Own f c r) = FitChangeBy s c × L s (change_kind c) r
+  FitPurposeBy s (purpose.LostDel c r) = FitChangeBy s c × HeldBy s (change_head c) r
+  FitPurposeBy s (purpose.WinnerIns i r) = L s Vertex r
+  FitPurposeBy s (purpose.SourceAgain o b) = FitBoundBy s b
+  FitPurposeBy s (purpose.CheckAgain d o b f) = FitBoundBy s b × FitFoundBy s b.pair f
+  FitPurposeBy s (purpose.Compare d b f e x) = FitBoundBy s b
+  FitPurposeBy s (purpose.Walk f k r) = FitJob s k.job × L s (job_kind k.job) r
+
+  abbrev pub FitPlaceBy : State → Place → Type 0
+  FitPlaceBy s place.Idle = Unit {0}
+  FitPlaceBy s (place.Head l) = FitLookBy s l
+  FitPlaceBy s (place.Settle st p) = FitPurposeBy s p
+  FitPlaceBy s (place.Link c h) = FitChangeBy s c × HeldOrNoneBy s (change_head c) h
+  FitPlaceBy s (place.End c r) = FitChangeBy s c × HeldBy s (change_head c) r
+  FitPlaceBy s (place.LostHead i) = IsKey s i × (0 < cell_at s.sizes s.cells (cell.Head (head.Vertex i)))
+  FitPlaceBy s (place.Raise v) = FitSurvey s v
+  FitPlaceBy s (place.WalkHead k) = FitJob s k.job
+  FitPlaceBy s (place.WalkOlder k r) = FitJob s k.job × L s (job_kind k.job) r
+
+  -- a state with cells enough, and a worker whose place fits
+  pub record FitBy (s : State) (w : ℕ) : Type 0 where
+    pub worker : w < s.sizes.workers
+    pub cells : needed s.sizes ≤ length s.cells
+    -- the row that comes next is not linked, since linked rows are counted
+    pub counted : (k : Kind) (r : ℕ) → L s k r → Counted s k r
+    pub place : FitPlaceBy s (worker_at s w).place
+
+-- where the linked rows are those in chains
+abbrev pub Held : State → Head → ℕ → Type 0
+Held s h r = HeldBy Linked s h r
+
+abbrev pub RowOrNone : State → Kind → ℕ → Type 0
+RowOrNone s k r = RowOrNoneBy Linked s k r
+
+abbrev pub HeldOrNone : State → Head → ℕ → Type 0
+HeldOrNone s h r = HeldOrNoneBy Linked s h r
+
+abbrev pub FitBound : State → Bound → Type 0
+FitBound s b = FitBoundBy Linked s b
+
+abbrev pub FitLook : State → Look → Type 0
+FitLook s l = FitLookBy Linked s l
+
+abbrev pub FitChange : State → Change → Type 0
+FitChange s c = FitChangeBy Linked s c
+
+abbrev pub FitFound : State → Pair → Result ℕ ℕ → Type 0
+FitFound s p f = FitFoundBy Linked s p f
+
 abbrev pub FitPurpose : State → Purpose → Type 0
-FitPurpose s (purpose.Look f l r) = FitLook s l × Held s (look_head l) r
-FitPurpose s (purpose.Own f c r) = FitChange s c × Linked s (change_kind c) r
-FitPurpose s (purpose.LostDel c r) = FitChange s c × Held s (change_head c) r
-FitPurpose s (purpose.WinnerIns i r) = Linked s Vertex r
-FitPurpose s (purpose.SourceAgain o b) = FitBound s b
-FitPurpose s (purpose.CheckAgain d o b f) = FitBound s b × FitFound s b.pair f
-FitPurpose s (purpose.Compare d b f e x) = FitBound s b
-FitPurpose s (purpose.Walk f k r) = FitJob s k.job × Linked s (job_kind k.job) r
+FitPurpose s p = FitPurposeBy Linked s p
 
 abbrev pub FitPlace : State → Place → Type 0
-FitPlace s place.Idle = Unit {0}
-FitPlace s (place.Head l) = FitLook s l
-FitPlace s (place.Settle st p) = FitPurpose s p
-FitPlace s (place.Link c h) = FitChange s c × HeldOrNone s (change_head c) h
-FitPlace s (place.End c r) = FitChange s c × Held s (change_head c) r
-FitPlace s (place.LostHead i) = IsKey s i × (0 < cell_at s.sizes s.cells (cell.Head (head.Vertex i)))
-FitPlace s (place.Raise v) = FitSurvey s v
-FitPlace s (place.WalkHead k) = FitJob s k.job
-FitPlace s (place.WalkOlder k r) = FitJob s k.job × Linked s (job_kind k.job) r
+FitPlace s p = FitPlaceBy Linked s p
 
--- a state with cells enough, and a worker whose place fits
-pub record Fit (s : State) (w : ℕ) : Type 0 where
-  pub worker : w < s.sizes.workers
-  pub cells : needed s.sizes ≤ length s.cells
-  -- the row that comes next is not linked, since linked rows are counted
-  pub counted : (k : Kind) (r : ℕ) → Linked s k r → Counted s k r
-  pub place : FitPlace s (worker_at s w).place
+abbrev pub Fit : State → ℕ → Type 0
+Fit s w = FitBy Linked s w

@@ -3,13 +3,18 @@
 
 ghost use Rattle.laws.specs.Clean.{OpeningsClean};
 ghost use Rattle.laws.specs.CountedRows.{CountedRowsLinked, CountedRowsSound, RunsLinkCounted};
-ghost use Rattle.laws.specs.Laws.{TurnsKeepLaws};
+ghost use Rattle.laws.specs.Laws.{TurnsKeepCounted, TurnsKeepLaws};
 ghost use Rattle.laws.specs.Sound.{RunsKeepLaws, RunsSound};
 ghost use Rattle.laws.specs.Stamps.{RunsStamp};
 
 /// Which cells a turn can change and how, and what it leaves as it was.
 pub fn turn_laws()
     ensures { TurnsKeepLaws }
+{}
+
+/// The same of rows that their owners count, in a chain or not.
+pub fn turns_keep_counted()
+    ensures { TurnsKeepCounted }
 {}
 
 /// Every opening is clean.
