@@ -65,8 +65,8 @@ module _ (g : Graph) {n : ℕ} (inside : Inside g n) {s h j : ℕ} {bs : List Bo
 
   -- another key to which an edge leads is listed
   pub newly : Edge g k j → j < length bs → flag bs j ≡ false → c < length xs → (ys : List ℕ) → ys ≡ set xs c j → (d : ℕ) → d ≡ c + 1 →
-      Serving g n s h (j + 1) (set bs j true) ys d k xs₀
-  newly e l new fits ys at_c d more = rw (at_c, more) (record {
+      (b : Bool) → b ≡ true → Serving g n s h (j + 1) (set bs j b) ys d k xs₀
+  newly e l new fits ys at_c d more b marks = rw (at_c, more, marks) (record {
     spread = join g inside q.turn q.spread (e.0, (let t = e.1 in let u = q.serves in cc)) new (flag (set bs j true)) (lists_set bs j l) (key (set xs c j))
         (λ p a. apart p (omega arith)) (get_or-set_same xs c j 0 fits);
     turn = (let t = q.turn in omega arith);

@@ -1,4 +1,4 @@
-use Rattle.std.proofs.Common.{◌≡◌, ◌≤◌, ◌<◌, true, is_some, sym, refl, ap, ◌∙◌, arith}
+use Rattle.std.proofs.Common.{◌≡◌, ◌≤◌, ◌<◌, true, is_some, sym, refl, ap, ◌∙◌, arith, rules}
 use Rattle.std.proofs.lemmas.List.{length-set}
 use Rattle.questions.proofs.Spreading.{room}
 use Rattle.questions.proofs.Listing.{is_edge, no_edge, begun, turned, passed, newly, complete_list, ended}
@@ -36,9 +36,9 @@ loop-j-preserved-then-not-listed-j g c =
       end = cc;
       within = omega arith;
       same = p.same_reference ∙ inv.same;
-      flags = omega (arith, length-set c.loop-j.listed c.in-Some-2.j true);
+      flags = length-set _ _ _ ∙ inv.flags;
       serving = rw (s.1, s.2)
-          (newly graph c.len-n.ensures.inside q (is_edge _ _ (c.is_some.ensures ∙ ap is_some edge) c.if-is_some.true) (omega arith) new (omega (arith, q.area, room q.spread j small new)) _ (rw s.2 at p.area) _ p.count);
+          (newly graph c.len-n.ensures.inside q (is_edge _ _ (c.is_some.ensures ∙ ap is_some edge) c.if-is_some.true) (omega arith) new (omega (arith, q.area, room q.spread j small new)) _ (rw s.2 at p.area) _ p.count _ (search rules));
     }
 
 pub loop-j-preserved : goal.loop-j-preserved
