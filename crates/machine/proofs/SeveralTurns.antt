@@ -1,5 +1,6 @@
 -- Several turns of one worker, one after another.
-use Rattle.std.proofs.Common.{◌≡◌, ℕ, zero, suc, ◌+◌, ◌<◌, Bool, true, false, cond, ltb, Some, None, Option, sym, refl, ap, ◌∙◌, subst, add-one, arith, below_more}
+use Rattle.std.proofs.Common.{◌≡◌, ℕ, zero, suc, ◌+◌, ◌<◌, ◌≤◌, Bool, true, false, cond, ltb, Some, None, Option, sym, refl, ap, ◌∙◌, subst, inl, inr, add-one, arith, below_more}
+use Rattle.std.proofs.lemmas.Bool.{cases_lt}
 use Rattle.std.proofs.lemmas.Option.{none-some}
 use Rattle.codes.specs.declared.answer.Answer.{Answer}
 use Rattle.codes.specs.declared.refusal.Refusal.TheVariants.{NoSuchWorker, WorkerIdle}
@@ -7,7 +8,7 @@ use Rattle.machine.specs.States.{State}
 use Rattle.machine.specs.Turns.{worker_at, answer_at, turned}
 use Rattle.machine.specs.Requests.{is_idle, turn_refused}
 use Rattle.machine.specs.History.{Continues}
-use Rattle.machine.specs.Several.{after, turn_events, TurnsMade, SeveralOutcome, stopping, turns_made, TurnsMadeStand}
+use Rattle.machine.specs.Several.{after, turn_events, TurnsMade, SeveralOutcome, stopping, turns_made, TurnsMadeStand, TurnsMadeOnce}
 use Rattle.machine.proofs.Busy.{turned_busy}
 
 -- a turn that is not refused is of a worker that there is, in its call
@@ -48,6 +49,7 @@ made_answer s t t' w n i a l e q g f = record {
   quiet = λ k h. q k (omega arith);
   last = λ k h. answer_at_lem s t w i k (Some a) e (omega arith) g;
   all = λ x. absurd (none-some a (sym x));
+  some = λ b x. omega arith;
 }
 
 -- turn number i did not answer
@@ -62,6 +64,7 @@ made_all s t w n i l e q = record {
   quiet = λ k h. q k (omega arith);
   last = λ k h. q k (omega arith);
   all = λ x. refl;
+  some = λ a x. absurd (none-some a x);
 }
 
 abbrev MadeAs : State → ℕ → ℕ → SeveralOutcome → Type 0
@@ -83,3 +86,26 @@ made_from s t w n i (suc m) l e q =
 
 pub turns_made_stand : TurnsMadeStand
 turns_made_stand s w n = made_from s s w n 0 n (omega arith) refl (λ k h. absurd (omega arith))
+
+-- of two ways to make the turns neither uses fewer: it would end at an answer, where the other goes on
+not_fewer : (s : State) (w n : ℕ) (a b : Option Answer) (i j : ℕ) (t u : State) → TurnsMade s w n a i t → TurnsMade s w n b j u → j ≤ i
+not_fewer s w n None b i j t u p q = omega (arith, p.all refl, q.within)
+not_fewer s w n (Some x) b zero j t u p q = absurd (omega (arith, p.some x refl))
+not_fewer s w n (Some x) b (suc k) j t u p q =
+    elim (cases_lt (suc k) j) [
+      | inl l ↦ absurd (none-some x (sym (q.quiet k (omega arith)) ∙ p.last k (omega arith)))
+      | inr l ↦ l
+    ]
+
+-- so they have the same answer: none where no turn was made, and else the last turn's
+same_answer : (s : State) (w n : ℕ) (a b : Option Answer) (i : ℕ) (t u : State) → TurnsMade s w n a i t → TurnsMade s w n b i u → a ≡ b
+same_answer s w n None None zero t u p q = refl
+same_answer s w n None (Some y) zero t u p q = absurd (omega (arith, q.some y refl))
+same_answer s w n (Some x) b zero t u p q = absurd (omega (arith, p.some x refl))
+same_answer s w n a b (suc k) t u p q = sym (p.last k (omega arith)) ∙ q.last k (omega arith)
+
+pub turns_made_once : TurnsMadeOnce
+turns_made_once s w n a b i j t u p q =
+    let e : i ≡ j = omega (arith, not_fewer s w n a b i j t u p q, not_fewer s w n b a j i u t q p) in
+    let r : TurnsMade s w n b i u = subst (λ k. TurnsMade s w n b k u) (sym e) q in
+    (same_answer s w n a b i t u p r, e, p.state ∙ sym r.state)

@@ -20,13 +20,15 @@ abbrev pub turn_events : State → ℕ → ℕ → List Event
 turn_events s w zero = []
 turn_events s w (suc k) = record { request = Turn w; reply = answered_or (Ok (answer_at (after s w k) w)) } ∷ turn_events s w k
 
--- Exactly `used` turns were made, at most n. None of them but the last answered; where none did, all n were made.
+-- Exactly `used` turns were made, at most n. None of them but the last answered; where none did, all n were made. Where there is an
+-- answer, there was a turn that gave it.
 pub record TurnsMade (s : State) (w n : ℕ) (answer : Option Answer) (used : ℕ) (s' : State) : Type 0 where
   pub within : used ≤ n
   pub state : s' ≡ after s w used
   pub quiet : (k : ℕ) → k + 1 < used → answer_at (after s w k) w ≡ None
   pub last : (k : ℕ) → k + 1 ≡ used → answer_at (after s w k) w ≡ answer
   pub all : answer ≡ None → used ≡ n
+  pub some : (a : Answer) → answer ≡ Some a → 1 ≤ used
 
 -- a refused worker makes no turn
 abbrev pub TurnsMadeOr : State → ℕ → ℕ → Result Several Refusal → State → Type 0
@@ -53,3 +55,9 @@ turns_made s w used (suc n) = stopping (answer_at s w) (turned s w) (used + 1) (
 
 abbrev pub TurnsMadeStand : Type 0
 TurnsMadeStand = (s : State) (w n : ℕ) → TurnsMade s w n (turns_made s w 0 n).several.answer (turns_made s w 0 n).several.used (turns_made s w 0 n).state
+
+-- no other answer, number of turns or state is that of the turns that were made
+abbrev pub TurnsMadeOnce : Type 0
+TurnsMadeOnce =
+    (s : State) (w n : ℕ) (a b : Option Answer) (i j : ℕ) (t u : State) → TurnsMade s w n a i t → TurnsMade s w n b j u →
+    (a ≡ b) × (i ≡ j) × (t ≡ u)

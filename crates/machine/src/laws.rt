@@ -1,10 +1,11 @@
 // Laws of the machine.
-ghost use Rattle.machine.specs.Several.{TurnsMadeStand};
+ghost use Rattle.machine.specs.Several.{TurnsMadeOnce, TurnsMadeStand};
 ghost use Rattle.machine.specs.Spent.{RowsSpentExactly, ClockSpentExactly, PagesCounted};
 
-/// What several turns of a worker come to can be computed.
+/// What several turns of a worker come to can be computed, and they come to nothing else.
 pub fn turns_made_stand()
-    ensures { TurnsMadeStand }
+    ensures stand { TurnsMadeStand }
+    ensures once { TurnsMadeOnce }
 {}
 
 /// A turn answers 40 exactly if its worker is at a link with no row of its own left, and 41 exactly if it is at a raise while
