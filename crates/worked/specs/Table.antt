@@ -1,6 +1,10 @@
 -- The worked cases, shown of the rules.
-use Rattle.std.specs.Prelude.{◌≡◌, ℕ, List, [], ◌∷◌, ◌++◌, replicate, Some, codes}
+use Rattle.std.specs.Prelude.{◌≡◌, ℕ, List, [], ◌∷◌, ◌++◌, replicate, Some, Ok, Err, codes}
+use Rattle.codes.specs.declared.refusal.Refusal.TheVariants.{SizeOutside, TooFewCells}
 use Rattle.layout.specs.Layout.{needed}
+use Rattle.layout.specs.Limits.{sized}
+use Rattle.machine.specs.Opening.{opened}
+use Rattle.machine.specs.Workers.{fresh_table}
 use Rattle.questions.specs.Cases.{Only}
 use Rattle.questions.specs.Measures.{total_scale, weakest_scale}
 use Rattle.session.specs.Sessions.{SessionState, SessionState.Shut}
@@ -40,11 +44,17 @@ pub record Table : Type 0 where
   pub worked_session : Plays (over 4096) (opens_two ∷ (removal ++ snapshot)) (codes "8100" ∷ (removed ++ snapshot_taken))
   -- Without the snapshot the two stamps are equal, which lets the edge in: 20.
   pub equal_stamps : Plays (over 4096) (opens_two ∷ (removal ++ (codes "0300FF" ∷ []))) (codes "8100" ∷ (removed ++ (codes "832007" ∷ [])))
+  -- 64 keys are lawful, 65 are not
+  pub most_sizes : sized 64 1 1 1 1 ≡ Ok (record { keys = 64; workers = 1; vrows = 1; erows = 1; top = 1 })
+  pub too_many_sizes : sized 65 1 1 1 1 ≡ Err SizeOutside
   -- 64 keys open, where there are cells enough; 65 do not
   pub most_keys : Plays (over 8330) (codes "0140010001000100000001" ∷ []) (codes "8100" ∷ [])
   pub too_many_keys : Plays (over 8330) (codes "0141010001000100000001" ∷ []) (codes "81E1" ∷ [])
-  -- one of everything needs 14 cells; 13 are too few
+  -- One of everything needs 14 cells. On 13 it does not open, and they stay as they were; 14 become the clock at 1 and 0 else, and
+  -- the workers are fresh.
   pub fourteen : needed least ≡ 14
+  pub thirteen_kept : opened (replicate 13 7) least ≡ Err (replicate 13 7, TooFewCells)
+  pub fourteen_opened : opened (replicate 14 7) least ≡ Ok (record { cells = 1 ∷ replicate 13 0; sizes = least; workers = fresh_table })
   pub thirteen_cells : Plays (over 13) (codes "0101010001000100000001" ∷ []) (codes "81E2" ∷ [])
   pub fourteen_cells : Plays (over 14) (codes "0101010001000100000001" ∷ []) (codes "8100" ∷ [])
   -- weight 1,000,000 begins; 1,000,001 and 0 do not

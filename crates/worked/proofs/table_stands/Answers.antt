@@ -13,9 +13,13 @@ returns c = record {
   worked_session = (_, record { sizes = Ok two; made = refl; reply = refl; session = refl; promise = opening_keeps (over 4096) (Ok two) }, plays (opened_state (replicate 4096 0) two) (removal ++ snapshot) (removed ++ snapshot_taken) refl refl);
   equal_stamps =
       (_, record { sizes = Ok two; made = refl; reply = refl; session = refl; promise = opening_keeps (over 4096) (Ok two) }, plays (opened_state (replicate 4096 0) two) (removal ++ (codes "0300FF" ∷ [])) (removed ++ (codes "832007" ∷ [])) refl refl);
+  most_sizes = refl;
+  too_many_sizes = refl;
   most_keys = (_, record { sizes = Ok most; made = refl; reply = refl; session = refl; promise = opening_keeps (over 8330) (Ok most) }, tt);
   too_many_keys = (_, record { sizes = Err SizeOutside; made = refl; reply = refl; session = refl; promise = opening_keeps (over 8330) (Err SizeOutside) }, tt);
   fourteen = refl;
+  thirteen_kept = refl;
+  fourteen_opened = refl;
   thirteen_cells = (_, record { sizes = Ok least; made = refl; reply = refl; session = refl; promise = opening_keeps (over 13) (Ok least) }, tt);
   fourteen_cells = (_, record { sizes = Ok least; made = refl; reply = refl; session = refl; promise = opening_keeps (over 14) (Ok least) }, tt);
   weight_most = (_, record { sizes = Ok two; made = refl; reply = refl; session = refl; promise = opening_keeps (over 91) (Ok two) }, plays (opened_state (replicate 91 0) two) (codes "0200040001000F4240" ∷ []) (codes "8200" ∷ []) refl refl);
