@@ -1,6 +1,7 @@
 pub mod Answering
 mod CodesOf
 pub mod GivingBack
+pub mod Once
 pub mod Opening
 mod Passing
 mod Servicing

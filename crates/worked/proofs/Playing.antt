@@ -1,5 +1,5 @@
--- The replies to lines can be computed.
-use Rattle.std.proofs.Common.{◌≡◌, ℕ, Bool, true, false, ◌&&◌, List, [], ◌∷◌, Ok, Err, Result, true≢false, sym, refl, arith}
+-- The replies to lines can be computed, and there are no others.
+use Rattle.std.proofs.Common.{◌≡◌, ℕ, Bool, true, false, ◌&&◌, List, [], ◌∷◌, Ok, Err, Result, true≢false, sym, refl, subst, arith}
 use Rattle.std.specs.NonZero.{non_zero_u8_get}
 use Rattle.codes.specs.declared.refusal.Refusal.{Refusal}
 use Rattle.frames.specs.declared.frame.Frame.{Frame}
@@ -15,7 +15,8 @@ use Rattle.session.specs.Answers.{code_of, turns_reply, page_or, Replies}
 use Rattle.session.specs.Sessions.{SessionState.Running}
 use Rattle.session.proofs.Total.{made_turns}
 use Rattle.session.proofs.Keeping.{begin_keeps, turns_keep, page_keeps}
-use Rattle.worked.specs.Plays.{Plays}
+use Rattle.session.proofs.Once.{replies_once}
+use Rattle.worked.specs.Plays.{Plays, PlaysOnce}
 
 -- the reply line and the state after it
 record Played : Type 0 where
@@ -76,3 +77,17 @@ plays_on s (line ∷ lines) q =
 -- lines that open nothing, with the replies that they are computed to have
 pub plays : (s : State) (lines out : List (List ℕ)) → none_opens lines ≡ true → replies s lines ≡ out → Plays (Running s) lines out
 plays s lines out q e = rw e at (plays_on s lines q)
+
+both_same : (l m : List ℕ) (ls ms : List (List ℕ)) → l ≡ m → ls ≡ ms → (l ∷ ls) ≡ (m ∷ ms)
+both_same l m ls ms e f = cc
+
+-- each line has one reply and leads to one session, from which the next goes on
+pub plays_once : PlaysOnce
+plays_once d [] [] [] p q = refl
+plays_once d [] [] (m ∷ ms) p q = absurd q
+plays_once d [] (l ∷ ls) out p q = absurd p
+plays_once d (line ∷ lines) [] out p q = absurd p
+plays_once d (line ∷ lines) (l ∷ ls) [] p q = absurd q
+plays_once d (line ∷ lines) (l ∷ ls) (m ∷ ms) p q =
+    let r = replies_once d (frame_in (bytes_of line)) l m p.0 q.0 p.1 q.1 in
+    both_same l m ls ms r.0 (plays_once q.0 lines ls ms (subst (λ e. Plays e lines ls) r.1 p.2) q.2)
