@@ -1,12 +1,13 @@
 // A session over a reader and a writer.
 ghost use Rattle.std.specs.Prelude.{◌≡◌, ◌+◌, ◌<◌, ◌≤◌, true, length, take, IfOk, IfErr};
-ghost use Rattle.session.specs.Sessions.{session_of, SessionState.Shut as Waiting};
+ghost use Rattle.stepper.specs.Runs.{state_of};
+ghost use Rattle.session.specs.Sessions.{session_of, SessionState.Running as Serving, SessionState.Shut as Waiting};
 ghost use Rattle.session.specs.Served.{Written};
 ghost use Rattle.session.specs.Feeding.{Carries};
 ghost use Rattle.session.specs.Service.{GrowsByFront, Passes, Breaks, Finishes, Serves};
 ghost use Rattle.std.specs.Io.KnownBytes.{Keeps, Consumes, IsAtEnd, WriteAppends};
 
-use crate::answer::answer;
+use crate::answer::{answer, answer_open};
 use crate::held::Held;
 use crate::states::Session;
 use cells::CellMemory;
@@ -14,6 +15,7 @@ use codes::Refusal;
 use frames::{Frame, LINE_FEED, LONGEST, parse};
 use std::io;
 use std::io::{ErrorKind, Read, Write};
+use stepper::run::Run;
 use thiserror::Error;
 
 /// Why a service ended before its input did.
@@ -52,6 +54,21 @@ fn reply<M: CellMemory>(
     }
 }
 
+// Replies as `reply` does, while a run is open. The run stays where it is: it has some thousands of bytes, which take longer to
+// move than most lines to reply to.
+fn reply_open<M: CellMemory>(
+    run: &mut Run<M>,
+    frame: Result<Frame, Refusal>,
+    out: &mut [u8],
+    at: usize,
+) -> usize
+    requires { at + 32901 ≤ length out.old }
+    ensures { Written (Serving (state_of M.cells run.old)) frame at out.old out.new result (Serving (state_of M.cells run.new)) }
+{
+    // There is always an end.
+    answer_open(run, frame, out, at).unwrap_or(at)
+}
+
 // A session after some bytes: how many were taken in, and where the replies end.
 #[derive(Drop)]
 struct TakenIn<M: CellMemory> {
@@ -83,9 +100,14 @@ fn take_in<M: CellMemory + Drop>(
         let byte = bytes[used];
         used += 1;
         if byte == LINE_FEED {
-            let replied = reply(session, parse(held.as_slice()), out, end);
-            session = replied.session;
-            end = replied.end;
+            let frame = parse(held.as_slice());
+            if let Session::Open(run) = &mut session {
+                end = reply_open(run, frame, out, end);
+            } else {
+                let replied = reply(session, frame, out, end);
+                session = replied.session;
+                end = replied.end;
+            }
             *held = Held::new();
         } else {
             held.push(byte);
