@@ -2,7 +2,7 @@
 use Rattle.std.proofs.Common.{◌≡◌, ◌≢◌, ℕ, suc, ◌+◌, ◌<◌, ◌≤◌, ◌==◌, Bool, true, false, if◌then◌else◌, List, [], ◌∷◌, ◌++◌, length, get_or, take, drop, Some, None, Option, Result, unwrap_or, ⊎_elim, ne_eqb, sym, refl, ap, ◌∙◌, subst, subst₂, arith}
 use Rattle.std.proofs.Math.Seq.{take-append_seam}
 use Rattle.std.proofs.lemmas.Bool.{cases_lt}
-use Rattle.std.proofs.lemmas.List.{append-nil, append_assoc, length-append, length-take, length-take-le, nil_from_length, take_all, take_more, drop_all, take-append-le}
+use Rattle.std.proofs.lemmas.List.{append-nil, append_assoc, length-append, length-take, length-take-le, nil_from_length, take_all, take_more, take-take, take-append-drop, drop-take, drop_all, take-append-le}
 use Rattle.codes.specs.declared.refusal.Refusal.{Refusal}
 use Rattle.frames.specs.declared.frame.Frame.{Frame}
 use Rattle.frames.specs.Frames.{frame_in}
@@ -50,12 +50,23 @@ feed_behind (b ∷ bs) more e =
     let p : ((b == 10) ≡ false) × (feed_at bs ≡ length bs) = no_feed (b == 10) (feed_at bs) (length bs) e in
     ap (λ q. if q then 0 else feed_at (bs ++ (10 ∷ more)) + 1) p.0 ∙ omega (arith, feed_behind bs more p.1)
 
--- one byte more that is no line feed
-free_more : (line : List ℕ) (c : ℕ) → feed_at line ≡ length line → (c == 10) ≡ false → feed_at (line ++ (c ∷ [])) ≡ length (line ++ (c ∷ []))
-free_more [] c e q = ap (λ b. if b then 0 else 0 + 1) q
-free_more (b ∷ bs) c e q =
+-- more bytes without one
+free_more : (line more : List ℕ) → feed_at line ≡ length line → feed_at more ≡ length more → feed_at (line ++ more) ≡ length (line ++ more)
+free_more [] more e f = f
+free_more (b ∷ bs) more e f =
     let p : ((b == 10) ≡ false) × (feed_at bs ≡ length bs) = no_feed (b == 10) (feed_at bs) (length bs) e in
-    ap (λ b. if b then 0 else feed_at (bs ++ (c ∷ [])) + 1) p.0 ∙ omega (arith, free_more bs c p.1 q)
+    ap (λ q. if q then 0 else feed_at (bs ++ more) + 1) p.0 ∙ omega (arith, free_more bs more p.1 f)
+
+-- a first byte that is no line feed, and more that have none
+free_behind : (x : ℕ) (more : List ℕ) → x ≢ 10 → feed_at more ≡ length more → feed_at (x ∷ more) ≡ length (x ∷ more)
+free_behind x more n e = ap (λ b. if b then 0 else feed_at more + 1) (ne_eqb x 10 n) ∙ omega (arith, e)
+
+-- the first bytes have none, and neither has the next
+pub free_byte : (bytes : List ℕ) (n x : ℕ) → feed_at (take n bytes) ≡ n → n < length bytes → x ≡ get_or bytes n 0 → x ≢ 10 → feed_at (take (n + 1) bytes) ≡ n + 1
+free_byte bytes n x e h k f =
+    ap feed_at (take_more bytes n 0 h)
+    ∙ free_more (take n bytes) (get_or bytes n 0 ∷ []) (e ∙ sym (length-take-le n bytes (omega arith))) (free_behind (get_or bytes n 0) [] (subst (λ z. z ≢ 10) k f) refl)
+    ∙ omega (arith, length-append (take n bytes) (get_or bytes n 0 ∷ []), length-take-le n bytes (omega arith))
 
 line_is : (line more : List ℕ) → feed_at line ≡ length line → line_of (line ++ (10 ∷ more)) ≡ line
 line_is line more e = ap (λ n. take n (line ++ (10 ∷ more))) (feed_behind line more e) ∙ take-append_seam line (10 ∷ more)
@@ -73,14 +84,14 @@ behind_is line more e = ap (λ n. drop (n + 1) (line ++ (10 ∷ more))) (feed_be
 pub begun : (d : SessionState) → Feeding d [] [] [] d
 begun d = record { line = []; free = refl; first = refl; served = λ more. nothing_yet }
 
--- a byte that is no line feed
-pub one_byte : (start now : SessionState) (read held held' out : List ℕ) (c : ℕ) → Feeding start read held out now → c ≢ 10 → held' ≡ take 23 (held ++ (c ∷ [])) → Feeding start (read ++ (c ∷ [])) held' out now
-one_byte start now read held held' out c f n e = record {
-  line = f.line ++ (c ∷ []);
-  free = free_more f.line c f.free (ne_eqb c 10 n);
-  first = e ∙ ap (λ zs. take 23 (zs ++ (c ∷ []))) f.first ∙ take_again 23 f.line (c ∷ []);
-  served = λ more.
-      subst₂ (λ x y. Served start x y out now) (sym (append_assoc read (c ∷ []) more)) (sym (append_assoc f.line (c ∷ []) more)) (f.served (c ∷ more));
+-- bytes that have no line feed
+pub no_feed_yet : (start now : SessionState) (read held held' out more : List ℕ) → Feeding start read held out now → feed_at more ≡ length more → held' ≡ take 23 (held ++ more) → Feeding start (read ++ more) held' out now
+no_feed_yet start now read held held' out more f n e = record {
+  line = f.line ++ more;
+  free = free_more f.line more f.free n;
+  first = e ∙ ap (λ zs. take 23 (zs ++ more)) f.first ∙ take_again 23 f.line more;
+  served = λ rest.
+      subst₂ (λ x y. Served start x y out now) (sym (append_assoc read more rest)) (sym (append_assoc f.line more rest)) (f.served (more ++ rest));
 }
 
 some_behind : (line more : List ℕ) → 1 ≤ length (line ++ (10 ∷ more))
@@ -123,11 +134,22 @@ one_more_byte : (read bytes : List ℕ) (i x : ℕ) → i < length bytes → x �
 one_more_byte read bytes i x h e =
     append_assoc read (take i bytes) (x ∷ []) ∙ ap (λ z. read ++ (take i bytes ++ (z ∷ []))) e ∙ ap (λ z. read ++ z) (sym (take_more bytes i 0 h))
 
--- one byte more that is no line feed
-pub carries_byte : (d now : SessionState) (held held' last bytes out : List ℕ) (i x : ℕ) → Carries d held (take i bytes) held' out now → i < length bytes → x ≡ get_or bytes i 0 → x ≢ 10 → last ≡ take 23 (held' ++ (x ∷ [])) → Carries d held (take (i + 1) bytes) last out now
-carries_byte d now held held' last bytes out i x k h e n q start read pre f =
-    subst (λ z. Feeding start z last (pre ++ out) now) (one_more_byte read bytes i x h e)
-    (one_byte start now (read ++ take i bytes) held' last (pre ++ out) x (k start read pre f) n q)
+-- a byte and some bytes behind it
+bytes_behind : (bytes behind : List ℕ) (i x n : ℕ) → i < length bytes → x ≡ get_or bytes i 0 → behind ≡ drop (i + 1) bytes → take i bytes ++ (x ∷ take n behind) ≡ take (i + 1 + n) bytes
+bytes_behind bytes behind i x n h e b =
+    let whole : List ℕ = take (i + 1 + n) bytes in
+    ap (λ z. take i bytes ++ (z ∷ take n behind)) e
+    ∙ sym (append_assoc (take i bytes) (get_or bytes i 0 ∷ []) (take n behind))
+    ∙ ap (λ zs. zs ++ take n behind) (sym (take_more bytes i 0 h) ∙ sym (take-take (i + 1) (i + 1 + n) bytes (omega arith)))
+    ∙ ap (λ zs. take (i + 1) whole ++ zs) (ap (take n) b ∙ sym (drop-take (i + 1) n bytes))
+    ∙ take-append-drop (i + 1) whole
+
+-- a byte that is no line feed, and bytes behind it that have none
+pub carries_bytes : (d now : SessionState) (held held' last bytes behind out : List ℕ) (i x n : ℕ) → Carries d held (take i bytes) held' out now → i < length bytes → x ≡ get_or bytes i 0 → x ≢ 10 → behind ≡ drop (i + 1) bytes → feed_at (take n behind) ≡ n → n ≤ length behind → last ≡ take 23 (held' ++ (x ∷ take n behind)) → Carries d held (take (i + 1 + n) bytes) last out now
+carries_bytes d now held held' last bytes behind out i x n k h e ne b f l q start read pre g =
+    let free : feed_at (x ∷ take n behind) ≡ length (x ∷ take n behind) = free_behind x (take n behind) ne (f ∙ sym (length-take-le n behind l)) in
+    subst (λ z. Feeding start z last (pre ++ out) now) (append_assoc read (take i bytes) (x ∷ take n behind) ∙ ap (λ z. read ++ z) (bytes_behind bytes behind i x n h e b))
+    (no_feed_yet start now (read ++ take i bytes) held' last (pre ++ out) (x ∷ take n behind) (k start read pre g) free q)
 
 -- one line feed more, and the reply to the line
 pub carries_line : (d now next : SessionState) (held held' last bytes mid new : List ℕ) (i x end n : ℕ) (fr : Result Frame Refusal) → Carries d held (take i bytes) held' (take end mid) now → i < length bytes → x ≡ get_or bytes i 0 → x ≡ 10 → fr ≡ frame_in (bytes_of held') → Written now fr end mid new n next → last ≡ [] → Carries d held (take (i + 1) bytes) last (take n new) next

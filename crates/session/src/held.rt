@@ -1,5 +1,5 @@
 // The line that is being read, as far as it matters.
-ghost use Rattle.std.specs.Prelude.{◌≡◌, ◌∷◌, [], ◌++◌, take};
+ghost use Rattle.std.specs.Prelude.{◌≡◌, ◌==◌, ◌∷◌, [], ◌++◌, length, take};
 
 use std::marker::Model;
 
@@ -39,6 +39,13 @@ impl Held {
             self.bytes[self.len] = byte;
             self.len += 1;
         }
+    }
+
+    // Whether no more bytes are held.
+    pub(crate) fn is_full(&self) -> bool
+        ensures { result ≡ (length self.now == 23) }
+    {
+        self.len == 23
     }
 
     // The bytes.

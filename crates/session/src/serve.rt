@@ -1,7 +1,8 @@
 // A session over a reader and a writer.
-ghost use Rattle.std.specs.Prelude.{◌≡◌, ◌+◌, ◌<◌, ◌≤◌, true, length, take, IfOk, IfErr};
+ghost use Rattle.std.specs.Prelude.{◌≡◌, ◌+◌, ◌<◌, ◌≤◌, true, ◌∷◌, ◌++◌, length, take, IfOk, IfErr};
 ghost use Rattle.stepper.specs.Runs.{state_of};
 ghost use Rattle.session.specs.Sessions.{session_of, SessionState.Running as Serving, SessionState.Shut as Waiting};
+ghost use Rattle.session.specs.Texts.{feed_at};
 ghost use Rattle.session.specs.Served.{Written};
 ghost use Rattle.session.specs.Feeding.{Carries};
 ghost use Rattle.session.specs.Service.{GrowsByFront, Passes, Breaks, Finishes, Serves};
@@ -69,6 +70,31 @@ fn reply_open<M: CellMemory>(
     answer_open(run, frame, out, at).unwrap_or(at)
 }
 
+// How many bytes stand in front of the first line feed.
+fn before_feed(bytes: &[u8]) -> usize
+    ensures free { feed_at (take result bytes.now) ≡ result }
+    ensures within { result ≤ length bytes.now }
+{
+    let mut n = 0;
+    while n < bytes.len() && bytes[n] != LINE_FEED {
+        n += 1;
+    }
+    n
+}
+
+// Takes in a byte that is no line feed, and the rest of a line that is longer than each frame: how many bytes that rest has.
+fn hold(held: &mut Held, byte: u8, behind: &[u8]) -> usize
+    ensures held { held.new ≡ take 23 (held.old ++ (byte ∷ take result behind.now)) }
+    ensures free { feed_at (take result behind.now) ≡ result }
+    ensures within { result ≤ length behind.now }
+{
+    if held.is_full() {
+        return before_feed(behind);
+    }
+    held.push(byte);
+    0
+}
+
 // A session after some bytes: how many were taken in, and where the replies end.
 #[derive(Drop)]
 struct TakenIn<M: CellMemory> {
@@ -110,7 +136,7 @@ fn take_in<M: CellMemory + Drop>(
             }
             *held = Held::new();
         } else {
-            held.push(byte);
+            used += hold(held, byte, &bytes[used..]);
         }
     }
     TakenIn { session, used, end }

@@ -1,8 +1,9 @@
-use Rattle.std.proofs.Common.{refl, ap, ◌∙◌, arith}
+use Rattle.std.proofs.Common.{◌+◌, refl, ap, ◌∙◌, arith}
+use Rattle.std.proofs.lemmas.List.{take_rest}
 use Rattle.frames.specs.Frames.{frame_in}
 use Rattle.frames.specs.Hex.{bytes_of}
 use Rattle.session.specs.Sessions.{session_of}
-use Rattle.session.proofs.Serving.{carries_none, carries_byte, carries_line}
+use Rattle.session.proofs.Serving.{carries_none, carries_bytes, carries_line}
 use Rattle.session.specs.Served.{Written}
 use Rattle.session.proofs.serve.take_in.Goals.{in-Open, in_default}
 use Rattle.session.proofs.serve.take_in.Goals as goal
@@ -34,9 +35,9 @@ loop-used-preserved-then-byte-eq-LINE_FEED g c =
 pub loop-used-preserved : goal.loop-used-preserved
 loop-used-preserved g c = record {
   carries =
-      carries_byte (session_of g.M.CellMemory.cells c.args.session) (session_of g.M.CellMemory.cells c.loop-used.session) c.args.held.now c.loop-used.held _ c.args.bytes.now _ c.loop-used.used _
-      c.loop-used.invariant.carries c.loop-used-test.true refl c.if-byte-eq-LINE_FEED.false c.push.ensures;
-  used = omega arith;
+      carries_bytes (session_of g.M.CellMemory.cells c.args.session) (session_of g.M.CellMemory.cells c.loop-used.session) c.args.held.now c.loop-used.held _ c.args.bytes.now _ _ c.loop-used.used _ c.hold-used.result
+      c.loop-used.invariant.carries c.loop-used-test.true refl c.if-byte-eq-LINE_FEED.false (take_rest c.args.bytes.now (c.loop-used.used + 1)) c.hold-used.ensures.free c.hold-used.ensures.within c.hold-used.ensures.held;
+  used = omega (arith, c.hold-used.ensures.within);
   within = c.loop-used.invariant.within;
   some = λ e. absurd (omega arith);
 }
