@@ -1,3 +1,4 @@
 mod Numerals
+mod Words
 mod Steps
 mod Replied

@@ -1,29 +1,29 @@
--- One step of each loop over words and bytes.
-use Rattle.std.proofs.Common.{◌≡◌, ℕ, zero, suc, ◌+◌, ◌-◌, ◌*◌, ◌<◌, ◌≤◌, ◌==◌, Bool, true, false, List, [], ◌∷◌, ◌++◌, length, get_or, take, drop, Some, None, refl, sym, ap, inl, inr, ◌∙◌, arith, length-append}
-use Rattle.std.specs.Borrow.{Bor}
-use Rattle.std.proofs.lemmas.Bool.{cases_Bool, eqb-true}
+-- One step of each loop over words and bytes, and what it leaves.
+use Rattle.std.proofs.Common.{◌≡◌, ℕ, zero, suc, ◌+◌, ◌-◌, ◌*◌, ◌<◌, ◌≤◌, ◌==◌, ◌&&◌, Bool, true, false, List, [], ◌∷◌, ◌++◌, length, get_or, take, drop, is_some, nat_lt, Option, Some, None, refl, sym, subst, ap, inl, inr, ◌∙◌, arith, length-append}
+use Rattle.std.proofs.lemmas.Bool.{cases_Bool, and_parts, eqb-true}
+use Rattle.std.proofs.Math.Bool.{and-false}
 use Rattle.std.proofs.lemmas.Bool.Decides.{nat_tests}
-use Rattle.std.proofs.lemmas.List.{at_drop_more, at_drop_all, length-drop, length-take}
+use Rattle.std.proofs.lemmas.List.{length-drop, length-take, length-take-le, take-append-drop}
 use Rattle.questions.specs.Pages.{fits}
-use Rattle.ask.specs.Numbers.{key_in}
+use Rattle.ask.specs.Numbers.{number, below, key_in}
 use Rattle.ask.specs.Replies.{bytes_for, keys_from, numbers}
-use Rattle.ask.specs.Lines.{texts, are_keys, with_key, with_keys}
+use Rattle.ask.specs.Lines.{Words, are_keys, with_key, with_keys}
 
-module _ (n : ℕ) (ws : List (Bor (List ℕ))) (i : ℕ) (d : Bor (List ℕ)) (l : i < length ws) where
-  pub keys_more : (k : ℕ) → key_in n (get_or ws i d).now ≡ Some k → are_keys n (texts (drop i ws)) ≡ are_keys n (texts (drop (i + 1) ws))
-  keys_more k e = at_drop_more (λ r. are_keys n (texts r)) ws i d l ∙ rw e refl
+module _ (n : ℕ) where
+  -- a word that names no key
+  pub keys_none : (ws : Words) (w : List ℕ) (more : Words) → key_in n w ≡ None → are_keys n (ws ++ (w ∷ more)) ≡ false
+  keys_none [] w more e = rw e refl
+  keys_none (v ∷ ws) w more e = ap (λ b. is_some (key_in n v) && b) (keys_none ws w more e) ∙ and-false (is_some (key_in n v))
 
-  pub keys_none : key_in n (get_or ws i d).now ≡ None → are_keys n (texts (drop i ws)) ≡ false
-  keys_none e = at_drop_more (λ r. are_keys n (texts r)) ws i d l ∙ rw e refl
+  -- a word that names a key
+  pub keys_more : (ws : Words) (w : List ℕ) (k : ℕ) → are_keys n ws ≡ true → key_in n w ≡ Some k → are_keys n (ws ++ (w ∷ [])) ≡ true
+  keys_more [] w k all e = rw e refl
+  keys_more (v ∷ ws) w k all e =
+      let (here, more) = and_parts (is_some (key_in n v)) (are_keys n ws) all in rw here (keys_more ws w k more e)
 
-  pub shown_more : (cells : List ℕ) → with_keys n cells (texts (drop i ws)) ≡ with_keys n (with_key cells (key_in n (get_or ws i d).now)) (texts (drop (i + 1) ws))
-  shown_more cells = at_drop_more (λ r. with_keys n cells (texts r)) ws i d l
-
-pub keys_end : (n : ℕ) (ws : List (Bor (List ℕ))) (i : ℕ) → length ws ≤ i → are_keys n (texts (drop i ws)) ≡ true
-keys_end n ws i l = at_drop_all (λ r. are_keys n (texts r)) ws i l
-
-pub shown_end : (n : ℕ) (ws : List (Bor (List ℕ))) (i : ℕ) (cells : List ℕ) → length ws ≤ i → with_keys n cells (texts (drop i ws)) ≡ cells
-shown_end n ws i cells l = at_drop_all (λ r. with_keys n cells (texts r)) ws i l
+  pub shown_more : (cells : List ℕ) (ws : Words) (w : List ℕ) → with_keys n cells (ws ++ (w ∷ [])) ≡ with_key (with_keys n cells ws) (key_in n w)
+  shown_more cells [] w = refl
+  shown_more cells (v ∷ ws) w = shown_more (with_key cells (key_in n v)) ws w
 
 pub size_more : (n size : ℕ) → n < 65 → (bytes_for n ≡ size → ⊥) → keys_from n (65 - n) size ≡ keys_from (n + 1) (65 - (n + 1)) size
 unfolding keys_from
@@ -79,3 +79,22 @@ whole_page n bytes cells e low high size =
     let pairs : length (numbers (drop n bytes)) ≡ n * n = length_numbers (n * n) (drop n bytes) (omega (arith, length-drop n bytes)) in
     let long : length cells ≡ n + n * n = omega (arith, ap length e, length-append (take n bytes) (numbers (drop n bytes)), length-take n bytes) in
     grind (arith, nat_tests)
+
+-- cells that were copied and put back
+pub restored : (n : ℕ) (cells before later : List ℕ) → n ≤ length cells → take (length (take n cells)) before ≡ take n cells → drop n later ≡ drop n cells
+    → take n before ++ drop (length (take n before)) later ≡ cells
+restored n cells before later fits copied pairs =
+    let long : length (take n cells) ≡ n = length-take-le n cells fits in
+    let front : take n before ≡ take n cells = subst (λ k. take k before ≡ take n cells) long copied in
+    ap (λ v. v ++ drop (length v) later) front ∙ ap (λ k. take n cells ++ drop k later) long ∙ ap (λ v. take n cells ++ v) pairs ∙ take-append-drop n cells
+
+-- a word names a key of the page
+pub key_small : (n : ℕ) (w : List ℕ) (k : ℕ) → key_in n w ≡ Some k → k < n
+key_small n w k = small (number 64 w)
+  where
+    small : (o : Option ℕ) → below n o ≡ Some k → k < n
+    small None e = absurd (let z : ◌≡◌ {A = Option ℕ} None (Some k) = e in cc)
+    small (Some j) e = elim (cases_Bool (nat_lt j n)) [
+      | inl t ↦ let y : below n (Some j) ≡ Some j = rw t refl in let z : ◌≡◌ {A = Option ℕ} (Some j) (Some k) = sym y ∙ e in let same : j ≡ k = cc in grind (arith, nat_tests)
+      | inr f ↦ absurd (let y : below n (Some j) ≡ None = rw f refl in let z : ◌≡◌ {A = Option ℕ} None (Some k) = sym y ∙ e in cc)
+    ]

@@ -23,6 +23,10 @@ texts words = map (λ w. w.now) words
 abbrev pub IsWordsOf : List ℕ → Words → Type 0
 IsWordsOf line words = (lent : List (Bor (List ℕ))) × (texts lent ≡ words) × (it : SplitWhitespace) × (split_whitespace_rest it ≡ line) × DrainsIf split_whitespace_steps ⊤ it lent
 
+-- what is said of the words that are left to come
+abbrev pub ByWords : SplitWhitespace → (Words → Type 0) → Type 0
+ByWords it P = (lent : List (Bor (List ℕ))) × DrainsIf split_whitespace_steps ⊤ it lent × P (texts lent)
+
 -- the first line is the number of keys, or a reply 84, and one word
 abbrev pub opened : List ℕ → Words → Result Drawing Fault
 opened word [] = if is_reply word then replied word else sized (number 64 word)
@@ -43,6 +47,10 @@ abbrev pub with_keys : ℕ → List ℕ → Words → List ℕ
 with_keys n cells [] = cells
 with_keys n cells (word ∷ more) = with_keys n (with_key cells (key_in n word)) more
 
+-- the cells, once each word's key is shown, if each names a key
+abbrev pub shown_keys : ℕ → List ℕ → Words → Result (List ℕ) Fault
+shown_keys n cells words = if are_keys n words then Ok (with_keys n cells words) else Err Key
+
 -- `keys`: each key is shown
 abbrev pub keys_line : Drawing → Words → Result Drawing Fault
 keys_line d words = if are_keys d.keys words then Ok (record d { cells = with_keys d.keys d.cells words }) else Err Key
@@ -61,6 +69,11 @@ edge_line d (i ∷ []) = Err Edge
 edge_line d (i ∷ (j ∷ [])) = Err Edge
 edge_line d (i ∷ (j ∷ (w ∷ []))) = with_edge d (number 64 i) (number 64 j) (weight_in w)
 edge_line d (i ∷ (j ∷ (w ∷ (next ∷ more)))) = Err Edge
+
+-- the words, if they are three
+abbrev pub Three : Option (Bor (List ℕ) × Bor (List ℕ) × Bor (List ℕ)) → Words → Type 0
+Three None words = (d : Drawing) → edge_line d words ≡ Err Edge
+Three (Some (i, j, w)) words = words ≡ i.now ∷ (j.now ∷ (w.now ∷ []))
 
 -- `start`: one key
 abbrev pub start_line : Words → Result ℕ Fault

@@ -1,37 +1,47 @@
 // The lines that draw a page.
-ghost use Rattle.std.specs.Prelude.{◌≡◌, ◌≤◌, IfOk, length};
+ghost use Rattle.std.specs.Prelude.{◌≡◌, ◌≤◌, IfOk, ◌++◌, length, take, drop};
 ghost use Rattle.ask.specs.Sheets.{drawing, bare};
-ghost use Rattle.ask.specs.Lines.{texts, are_keys, with_keys, keys_line, edge_line, Follows};
+ghost use Rattle.ask.specs.Lines.{texts, shown_keys, keys_line, edge_line, ByWords, Follows};
 
 use crate::drawn::Drawn;
 use crate::fault::Fault;
 use crate::number::{key_in, number, weight_in};
 use codes::NO_EDGE;
 use std::alloc::{AllocError, Global};
+use std::str::SplitWhitespace;
 
-// Whether each word names a key.
-fn are_keys(keys: usize, words: &[&str]) -> bool
-    ensures { result ≡ are_keys keys (texts words.now) }
+// A copy of the cells of the keys.
+fn copied(cells: &[u32]) -> [u32; 64]
+    requires { length cells.now ≤ 64 }
+    ensures { take (length cells.now) result ≡ cells.now }
 {
-    for word in words {
-        let Some(_) = key_in(keys, word) else {
-            return false;
-        };
-    }
-    true
+    let mut copy = [0u32; 64];
+    copy[..cells.len()].copy_from_slice(cells);
+    copy
 }
 
-// Shows the keys that the words name.
-fn show_keys(cells: &mut Vec<u32>, keys: usize, words: &[&str])
-    requires { keys ≤ length cells.old.items }
-    ensures cells { cells.new.items ≡ with_keys keys cells.old.items (texts words.now) }
-    ensures same_length { length cells.new.items ≡ length cells.old.items }
+// Puts cells back at the front.
+fn put_back(cells: &mut [u32], front: &[u32])
+    requires { length front.now ≤ length cells.old }
+    ensures { cells.new ≡ front.now ++ drop (length front.now) cells.old }
 {
+    cells[..front.len()].copy_from_slice(front);
+}
+
+// Shows the keys that the words name; where a word names no key, the cells are as they were.
+fn show_keys(cells: &mut [u32], keys: usize, words: SplitWhitespace) -> Result<(), Fault>
+    requires { (keys ≤ 64) × (keys ≤ length cells.old) }
+    ensures { ByWords words.entry (λ said. Follows cells.old (shown_keys keys cells.old said) cells.new result) }
+{
+    let before = copied(&cells[..keys]);
     for word in words {
-        if let Some(k) = key_in(keys, word) {
-            cells[k] = 1;
-        }
+        let Some(k) = key_in(keys, word) else {
+            put_back(cells, &before[..keys]);
+            return Err(Fault::Key);
+        };
+        cells[k] = 1;
     }
+    Ok(())
 }
 
 impl Drawn {
@@ -46,14 +56,10 @@ impl Drawn {
     }
 
     /// Shows the keys that the words name, or none of them where a word names no key.
-    pub fn show(&mut self, words: &[&str]) -> Result<(), Fault>
-        ensures { Follows (drawing self.old) (keys_line (drawing self.old) (texts words.now)) (drawing self.new) result }
+    pub fn show(&mut self, words: SplitWhitespace) -> Result<(), Fault>
+        ensures { ByWords words.entry (λ said. Follows (drawing self.old) (keys_line (drawing self.old) said) (drawing self.new) result) }
     {
-        if !are_keys(self.keys, words) {
-            return Err(Fault::Key);
-        }
-        show_keys(&mut self.cells, self.keys, words);
-        Ok(())
+        show_keys(&mut self.cells, self.keys, words)
     }
 
     /// Draws the edge that the words name.

@@ -1,9 +1,10 @@
-use Rattle.std.proofs.Common.{◌≡◌, drop, length}
-use Rattle.ask.specs.Lines.{texts, with_keys}
+use Rattle.std.proofs.Common.{◌≡◌, true, drop}
+use Rattle.ask.specs.Lines.{texts, are_keys, with_keys}
 use Rattle.ask.proofs.lines.show_keys.Given as goal
 
 abbrev pub invariant-loop-word : goal.invariant-loop-word
 invariant-loop-word l = record {
-  to_show : with_keys l.keys l.cells.items (texts (drop l.word-index l.words)) ≡ with_keys l.keys l.initial.cells.items (texts l.words);
-  same_length : length l.cells.items ≡ length l.initial.cells.items;
+  named : are_keys l.keys (texts l.yielded) ≡ true;
+  shown : l.cells ≡ with_keys l.keys l.initial.cells (texts l.yielded);
+  pairs : drop l.keys l.cells ≡ drop l.keys l.initial.cells;
 }
