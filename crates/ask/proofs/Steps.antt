@@ -1,9 +1,9 @@
 -- One step of each loop over words and bytes, and what it leaves.
-use Rattle.std.proofs.Common.{◌≡◌, ℕ, zero, suc, ◌+◌, ◌-◌, ◌*◌, ◌<◌, ◌≤◌, ◌==◌, ◌&&◌, Bool, true, false, List, [], ◌∷◌, ◌++◌, length, get_or, take, drop, is_some, nat_lt, Option, Some, None, refl, sym, subst, ap, inl, inr, ◌∙◌, arith, length-append}
+use Rattle.std.proofs.Common.{◌≡◌, ℕ, zero, suc, ◌+◌, ◌-◌, ◌*◌, ◌<◌, ◌≤◌, ◌==◌, ◌&&◌, Bool, true, false, List, [], ◌∷◌, ◌++◌, length, get_or, take, drop, is_some, nat_lt, Option, Some, None, refl, sym, ap, inl, inr, ◌∙◌, arith, length-append}
 use Rattle.std.proofs.lemmas.Bool.{cases_Bool, and_parts, eqb-true}
 use Rattle.std.proofs.Math.Bool.{and-false}
 use Rattle.std.proofs.lemmas.Bool.Decides.{nat_tests}
-use Rattle.std.proofs.lemmas.List.{length-drop, length-take, length-take-le, take-append-drop}
+use Rattle.std.proofs.lemmas.List.{length-drop, length-take, length-take-le, take_all, take-append-le, take-append-drop}
 use Rattle.questions.specs.Pages.{fits}
 use Rattle.ask.specs.Numbers.{number, below, key_in}
 use Rattle.ask.specs.Replies.{bytes_for, keys_from, numbers}
@@ -81,11 +81,11 @@ whole_page n bytes cells e low high size =
     grind (arith, nat_tests)
 
 -- cells that were copied and put back
-pub restored : (n : ℕ) (cells before later : List ℕ) → n ≤ length cells → take (length (take n cells)) before ≡ take n cells → drop n later ≡ drop n cells
+pub restored : (n : ℕ) (cells before more later : List ℕ) → n ≤ length cells → before ≡ take n cells ++ more → drop n later ≡ drop n cells
     → take n before ++ drop (length (take n before)) later ≡ cells
-restored n cells before later fits copied pairs =
+restored n cells before more later fits copied pairs =
     let long : length (take n cells) ≡ n = length-take-le n cells fits in
-    let front : take n before ≡ take n cells = subst (λ k. take k before ≡ take n cells) long copied in
+    let front : take n before ≡ take n cells = ap (take n) copied ∙ take-append-le n (take n cells) more (omega arith) ∙ take_all n (take n cells) (omega arith) in
     ap (λ v. v ++ drop (length v) later) front ∙ ap (λ k. take n cells ++ drop k later) long ∙ ap (λ v. take n cells ++ v) pairs ∙ take-append-drop n cells
 
 -- a word names a key of the page

@@ -1,5 +1,5 @@
 // The lines that draw a page.
-ghost use Rattle.std.specs.Prelude.{◌≡◌, ◌≤◌, IfOk, ◌++◌, length, take, drop};
+ghost use Rattle.std.specs.Prelude.{◌≡◌, ◌≤◌, IfOk, ◌++◌, length, drop};
 ghost use Rattle.ask.specs.Sheets.{drawing, bare};
 ghost use Rattle.ask.specs.Lines.{texts, shown_keys, keys_line, edge_line, ByWords, Follows};
 
@@ -10,18 +10,8 @@ use codes::NO_EDGE;
 use std::alloc::{AllocError, Global};
 use std::str::SplitWhitespace;
 
-// A copy of the cells of the keys.
-fn copied(cells: &[u32]) -> [u32; 64]
-    requires { length cells.now ≤ 64 }
-    ensures { take (length cells.now) result ≡ cells.now }
-{
-    let mut copy = [0u32; 64];
-    copy[..cells.len()].copy_from_slice(cells);
-    copy
-}
-
-// Puts cells back at the front.
-fn put_back(cells: &mut [u32], front: &[u32])
+// Writes cells over the first ones.
+fn put_front(cells: &mut [u32], front: &[u32])
     requires { length front.now ≤ length cells.old }
     ensures { cells.new ≡ front.now ++ drop (length front.now) cells.old }
 {
@@ -33,10 +23,11 @@ fn show_keys(cells: &mut [u32], keys: usize, words: SplitWhitespace) -> Result<(
     requires { (keys ≤ 64) × (keys ≤ length cells.old) }
     ensures { ByWords words.entry (λ said. Follows cells.old (shown_keys keys cells.old said) cells.new result) }
 {
-    let before = copied(&cells[..keys]);
+    let mut before = [0u32; 64];
+    put_front(&mut before, &cells[..keys]);
     for word in words {
         let Some(k) = key_in(keys, word) else {
-            put_back(cells, &before[..keys]);
+            put_front(cells, &before[..keys]);
             return Err(Fault::Key);
         };
         cells[k] = 1;

@@ -16,10 +16,10 @@ returns-in_default c =
     let s = c.args.words in let it = c.loop-word.word-iterator in let w = c.in-Some.word in let t = c.next.new.self in
     let came = subst (λ j. Yields split_whitespace_steps j ws it) c.into_iter-word-iterator.ensures.into_iter_gives c.loop-word.yielded_by in
     let text = text_after it w t c.in-Some.ensures.steps (text_came ws s it came c.well_formed.1.1.0.1.1.0.1) in
-    let same = c.put_back.ensures ∙ restored n cells c.copied-before.result c.loop-word.cells c.requires.1 c.copied-before.ensures c.loop-word.invariant.pairs in
-    by_came (λ said. Follows cells (shown_keys n cells said) c.put_back.new.cells (Err Key)) ws s it came
-    (by_next (λ more. Follows cells (shown_keys n cells (texts ws ++ more)) c.put_back.new.cells (Err Key)) it w t c.in-Some.ensures.steps
-    (by_any (λ more. Follows cells (shown_keys n cells (texts ws ++ (w.now ∷ more))) c.put_back.new.cells (Err Key)) t text
+    let same = c.put_front-in_default.ensures ∙ restored n cells c.put_front.new.cells _ c.loop-word.cells c.requires.1 c.put_front.ensures c.loop-word.invariant.pairs in
+    by_came (λ said. Follows cells (shown_keys n cells said) c.put_front-in_default.new.cells (Err Key)) ws s it came
+    (by_next (λ more. Follows cells (shown_keys n cells (texts ws ++ more)) c.put_front-in_default.new.cells (Err Key)) it w t c.in-Some.ensures.steps
+    (by_any (λ more. Follows cells (shown_keys n cells (texts ws ++ (w.now ∷ more))) c.put_front-in_default.new.cells (Err Key)) t text
     (λ more. rw (keys_none n (texts ws) w.now more (sym c.key_in.ensures ∙ c.in_default.is)) (refl, same))))
 
 -- a word named a key
