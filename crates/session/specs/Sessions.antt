@@ -1,5 +1,5 @@
 -- What a session stands for: the cells of a memory on which nothing is open, or the state of a run.
-use Rattle.std.specs.Prelude.{ℕ, List}
+use Rattle.std.specs.Prelude.{ℕ, List, [], Some, None, Option}
 use Rattle.machine.specs.States.{State}
 use Rattle.stepper.specs.Runs.{state_of, memory_of as run_memory}
 use Rattle.session.specs.declared.states.Session.{Session}
@@ -14,6 +14,11 @@ pub data SessionState : Type 0 where
 abbrev pub session_of : {M : Type 0} {m : _} → (M → List ℕ) → Session M m → SessionState
 session_of cells_of (session.Closed m) = Shut (cells_of m)
 session_of cells_of (session.Open r) = Running (state_of cells_of r)
+
+-- the state of the session in a place; where none is there, no memory is
+abbrev pub session_in : {M : Type 0} {m : _} → (M → List ℕ) → Option (Session M m) → SessionState
+session_in cells_of (Some s) = session_of cells_of s
+session_in cells_of None = Shut []
 
 -- the memory of a session
 abbrev pub memory_of : {M : Type 0} {m : _} → Session M m → M

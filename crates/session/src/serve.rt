@@ -1,7 +1,7 @@
 // A session over a reader and a writer.
-ghost use Rattle.std.specs.Prelude.{◌≡◌, ◌+◌, ◌<◌, ◌≤◌, true, ◌∷◌, ◌++◌, length, take, IfOk, IfErr};
+ghost use Rattle.std.specs.Prelude.{◌≡◌, ◌+◌, ◌<◌, ◌≤◌, true, ◌∷◌, ◌++◌, length, take, IsSome, IfOk, IfErr};
 ghost use Rattle.stepper.specs.Runs.{state_of};
-ghost use Rattle.session.specs.Sessions.{session_of, SessionState.Running as Serving, SessionState.Shut as Waiting};
+ghost use Rattle.session.specs.Sessions.{session_in, SessionState.Running as Serving, SessionState.Shut as Waiting};
 ghost use Rattle.session.specs.Texts.{feed_at};
 ghost use Rattle.session.specs.Served.{Written};
 ghost use Rattle.session.specs.Feeding.{Carries};
@@ -30,33 +30,8 @@ pub enum ServeError {
     Write(io::Error),
 }
 
-// A session after a line, and where the reply ends.
-#[derive(Drop)]
-struct Replied<M: CellMemory> {
-    session: Session<M>,
-    end: usize,
-}
-
-// Replies to a frame, or to a line that is none, where there is room for the longest reply.
-fn reply<M: CellMemory>(
-    session: Session<M>,
-    frame: Result<Frame, Refusal>,
-    out: &mut [u8],
-    at: usize,
-) -> Replied<M>
-    requires { at + 32901 ≤ length out.old }
-    ensures { Written (session_of M.cells session) frame at out.old out.new result.end (session_of M.cells result.session) }
-{
-    let answered = answer(session, frame, out, at);
-    Replied {
-        session: answered.session,
-        // There is always an end.
-        end: answered.end.unwrap_or(at),
-    }
-}
-
-// Replies as `reply` does, while a run is open. The run stays where it is: it has some thousands of bytes, which take longer to
-// move than most lines to reply to.
+// Replies to a frame, or to a line that is none, while a run is open and there is room for the longest reply: where the reply
+// ends.
 fn reply_open<M: CellMemory>(
     run: &mut Run<M>,
     frame: Result<Frame, Refusal>,
@@ -68,6 +43,30 @@ fn reply_open<M: CellMemory>(
 {
     // There is always an end.
     answer_open(run, frame, out, at).unwrap_or(at)
+}
+
+// Replies as `reply_open` does, whether or not a run is open. A run stays where it is: it has some thousands of bytes, which take
+// longer to move than most lines to reply to. What is not open is taken out for the line and put back.
+fn reply<M: CellMemory + Drop>(
+    place: &mut Option<Session<M>>,
+    frame: Result<Frame, Refusal>,
+    out: &mut [u8],
+    at: usize,
+) -> usize
+    requires room { at + 32901 ≤ length out.old }
+    requires there { IsSome place.old }
+    ensures written { Written (session_in M.cells place.old) frame at out.old out.new result (session_in M.cells place.new) }
+    ensures there { IsSome place.new }
+{
+    if let Some(Session::Open(run)) = place {
+        return reply_open(run, frame, out, at);
+    }
+    let Some(session) = place.take() else {
+        return at;
+    };
+    let answered = answer(session, frame, out, at);
+    *place = Some(answered.session);
+    answered.end.unwrap_or(at)
 }
 
 // How many bytes stand in front of the first line feed.
@@ -95,51 +94,44 @@ fn hold(held: &mut Held, byte: u8, behind: &[u8]) -> usize
     0
 }
 
-// A session after some bytes: how many were taken in, and where the replies end.
-#[derive(Drop)]
-struct TakenIn<M: CellMemory> {
-    session: Session<M>,
+// How many bytes were taken in, and where the replies end.
+#[derive(Clone, Copy, PartialEq, Eq, Debug)]
+struct TakenIn {
     used: usize,
     end: usize,
 }
 
 // Takes in bytes as long as the area has room for a reply, and replies to each line that ends.
 fn take_in<M: CellMemory + Drop>(
-    session: Session<M>,
+    place: &mut Option<Session<M>>,
     held: &mut Held,
     bytes: &[u8],
     out: &mut [u8],
-) -> TakenIn<M>
-    requires { 32901 ≤ length out.old }
-    ensures carries { Carries (session_of M.cells session) held.old (take result.used bytes.now) held.new (take result.end out.new) (session_of M.cells result.session) }
+) -> TakenIn
+    requires room { 32901 ≤ length out.old }
+    requires there { IsSome place.old }
+    ensures carries { Carries (session_in M.cells place.old) held.old (take result.used bytes.now) held.new (take result.end out.new) (session_in M.cells place.new) }
+    ensures there { IsSome place.new }
     ensures used { result.used ≤ length bytes.now }
     ensures end { result.end ≤ length out.new }
     ensures some { result.used ≡ 0 → length bytes.now ≡ 0 }
 {
-    let mut session = session;
     let mut used = 0;
     let mut end = 0;
     while used < bytes.len() {
         if out.len() - end < LONGEST {
-            return TakenIn { session, used, end };
+            return TakenIn { used, end };
         }
         let byte = bytes[used];
         used += 1;
         if byte == LINE_FEED {
-            let frame = parse(held.as_slice());
-            if let Session::Open(run) = &mut session {
-                end = reply_open(run, frame, out, end);
-            } else {
-                let replied = reply(session, frame, out, end);
-                session = replied.session;
-                end = replied.end;
-            }
+            end = reply(place, parse(held.as_slice()), out, end);
             *held = Held::new();
         } else {
             used += hold(held, byte, &bytes[used..]);
         }
     }
-    TakenIn { session, used, end }
+    TakenIn { used, end }
 }
 
 // Writes some bytes; none where that was interrupted.
@@ -173,43 +165,44 @@ fn write_whole<W: Write>(output: &mut W, bytes: &[u8]) -> io::Result<()>
 
 // Takes in bytes and writes the replies to the lines that end.
 fn pass_on<M: CellMemory + Drop, W: Write>(
-    session: Session<M>,
+    place: &mut Option<Session<M>>,
     held: &mut Held,
     bytes: &[u8],
     out: &mut [u8],
     output: &mut W,
-) -> io::Result<Session<M>>
-    requires { 32901 ≤ length out.old }
-    ensures ok { IfOk result (λ next. Passes (session_of M.cells session) held.old bytes.now held.new (W.contents output.old) (W.contents output.new) (session_of M.cells next)) }
-    ensures err { IfErr result (λ e. Breaks (session_of M.cells session) held.old bytes.now (W.contents output.old) (W.contents output.new)) }
+) -> io::Result<()>
+    requires room { 32901 ≤ length out.old }
+    requires there { IsSome place.old }
+    ensures ok { IfOk result (λ n. Passes (session_in M.cells place.old) held.old bytes.now held.new (W.contents output.old) (W.contents output.new) (session_in M.cells place.new)) }
+    ensures err { IfErr result (λ e. Breaks (session_in M.cells place.old) held.old bytes.now (W.contents output.old) (W.contents output.new)) }
+    ensures there { IsSome place.new }
 {
-    let mut session = session;
     let mut rest = bytes;
     while !rest.is_empty() {
-        let taken = take_in(session, held, rest, out);
-        session = taken.session;
+        let taken = take_in(place, held, rest, out);
         write_whole(output, &out[..taken.end])?;
         rest = &rest[taken.used..];
     }
-    Ok(session)
+    Ok(())
 }
 
 // Replies to the last line, which has no line feed, where there is one.
 fn finish<M: CellMemory + Drop, W: Write>(
-    session: Session<M>,
+    place: &mut Option<Session<M>>,
     held: &Held,
     out: &mut [u8],
     output: &mut W,
 ) -> io::Result<()>
-    requires { 32901 ≤ length out.old }
-    ensures { Finishes (session_of M.cells session) held.now (W.contents output.old) (W.contents output.new) result }
+    requires room { 32901 ≤ length out.old }
+    requires there { IsSome place.old }
+    ensures { Finishes (session_in M.cells place.old) held.now (W.contents output.old) (W.contents output.new) result }
 {
     let line = held.as_slice();
     if line.is_empty() {
         return Ok(());
     }
-    let replied = reply(session, parse(line), out, 0);
-    write_whole(output, &out[..replied.end])
+    let end = reply(place, parse(line), out, 0);
+    write_whole(output, &out[..end])
 }
 
 // How many bytes were read, and whether the input has ended.
@@ -249,7 +242,7 @@ pub fn serve_lines<M: CellMemory + Drop, R: Read, W: Write>(
 ) -> Result<(), ServeError>
     ensures { Serves (Waiting (M.cells memory)) (R.remaining input.old) (R.remaining input.new) (W.contents output.old) (W.contents output.new) result }
 {
-    let mut session = Session::Closed(memory);
+    let mut place = Some(Session::Closed(memory));
     let mut held = Held::new();
     let mut chunk = [0; 4096];
     // Room for the replies to the lines of a chunk that ask for no page, and for a page.
@@ -261,15 +254,15 @@ pub fn serve_lines<M: CellMemory + Drop, R: Read, W: Write>(
             Err(e) => return Err(ServeError::Read(e)),
         };
         if got.ended {
-            return match finish(session, &held, &mut out, output) {
+            return match finish(&mut place, &held, &mut out, output) {
                 Ok(()) => Ok(()),
                 Err(e) => Err(ServeError::Write(e)),
             };
         }
-        session = match pass_on(session, &mut held, &chunk[..got.len], &mut out, output) {
-            Ok(next) => next,
+        match pass_on(&mut place, &mut held, &chunk[..got.len], &mut out, output) {
+            Ok(()) => {}
             Err(e) => return Err(ServeError::Write(e)),
-        };
+        }
     }
     Err(ServeError::Read(io::Error::other("too many reads")))
 }

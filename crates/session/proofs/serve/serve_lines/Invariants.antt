@@ -1,7 +1,10 @@
-use Rattle.session.specs.Sessions.{session_of}
+use Rattle.std.proofs.Common.{IsSome}
+use Rattle.session.specs.Sessions.{session_in}
 use Rattle.session.specs.Service.{Serving}
 use Rattle.session.proofs.serve.serve_lines.Given as goal
 
 abbrev pub invariant-loop : goal.invariant-loop
-invariant-loop g l =
-    Serving (session_of g.M.CellMemory.cells l.initial.session) (g.R.Read.remaining l.initial.input) (g.R.Read.remaining l.input) (g.W.Write.contents l.initial.output) (g.W.Write.contents l.output) l.held (session_of g.M.CellMemory.cells l.session)
+invariant-loop g l = record {
+  serving : Serving (session_in g.M.CellMemory.cells l.initial.place) (g.R.Read.remaining l.initial.input) (g.R.Read.remaining l.input) (g.W.Write.contents l.initial.output) (g.W.Write.contents l.output) l.held (session_in g.M.CellMemory.cells l.place);
+  there : IsSome l.place;
+}

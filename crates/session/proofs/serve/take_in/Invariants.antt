@@ -1,14 +1,15 @@
-use Rattle.std.proofs.Common.{◌≡◌, ◌-◌, ◌≤◌, length, take}
-use Rattle.session.specs.Sessions.{session_of}
+use Rattle.std.proofs.Common.{◌≡◌, ◌-◌, ◌≤◌, length, take, IsSome}
+use Rattle.session.specs.Sessions.{session_in}
 use Rattle.session.specs.Feeding.{Carries}
 use Rattle.session.proofs.serve.take_in.Given as goal
 
 abbrev pub invariant-loop-used : goal.invariant-loop-used
 invariant-loop-used g l = record {
-  carries : Carries (session_of g.M.CellMemory.cells l.initial.session) l.initial.held (take l.used l.bytes) l.held (take l.end l.out) (session_of g.M.CellMemory.cells l.session);
+  carries : Carries (session_in g.M.CellMemory.cells l.initial.place) l.initial.held (take l.used l.bytes) l.held (take l.end l.out) (session_in g.M.CellMemory.cells l.place);
   used : l.used ≤ length l.bytes;
   within : l.end ≤ length l.out;
   some : l.used ≡ 0 → l.end ≡ 0;
+  there : IsSome l.place;
 }
 
 abbrev pub decreases-loop-used : goal.decreases-loop-used
