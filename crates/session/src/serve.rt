@@ -45,8 +45,28 @@ fn reply_open<M: CellMemory>(
     answer_open(run, frame, out, at).unwrap_or(at)
 }
 
-// Replies as `reply_open` does, whether or not a run is open. A run stays where it is: it has some thousands of bytes, which take
-// longer to move than most lines to reply to. What is not open is taken out for the line and put back.
+// Replies as `reply_open` does, whether or not a run is open: takes out what is in the place, and puts back what is there after.
+fn reply_moved<M: CellMemory + Drop>(
+    place: &mut Option<Session<M>>,
+    frame: Result<Frame, Refusal>,
+    out: &mut [u8],
+    at: usize,
+) -> usize
+    requires room { at + 32901 ≤ length out.old }
+    requires there { IsSome place.old }
+    ensures written { Written (session_in M.cells place.old) frame at out.old out.new result (session_in M.cells place.new) }
+    ensures there { IsSome place.new }
+{
+    let Some(session) = place.take() else {
+        return at;
+    };
+    let answered = answer(session, frame, out, at);
+    *place = Some(answered.session);
+    // There is always an end.
+    answered.end.unwrap_or(at)
+}
+
+// The same, where a run stays where it is: it has some thousands of bytes, which take longer to move than most lines to reply to.
 fn reply<M: CellMemory + Drop>(
     place: &mut Option<Session<M>>,
     frame: Result<Frame, Refusal>,
@@ -59,14 +79,10 @@ fn reply<M: CellMemory + Drop>(
     ensures there { IsSome place.new }
 {
     if let Some(Session::Open(run)) = place {
-        return reply_open(run, frame, out, at);
+        reply_open(run, frame, out, at)
+    } else {
+        reply_moved(place, frame, out, at)
     }
-    let Some(session) = place.take() else {
-        return at;
-    };
-    let answered = answer(session, frame, out, at);
-    *place = Some(answered.session);
-    answered.end.unwrap_or(at)
 }
 
 // How many bytes stand in front of the first line feed.
