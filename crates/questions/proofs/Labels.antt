@@ -1,6 +1,6 @@
 -- What a write to one label changes.
-use Rattle.std.proofs.Common.{◌≡◌, ℕ, ◌<◌, ◌≤◌, true, false, List, None, length, take, set, get_or, replicate, ap, inl, inr, arith}
-use Rattle.std.proofs.lemmas.List.{get_or-set_same, get_or-set_other, length-take, length-replicate}
+use Rattle.std.proofs.Common.{◌≡◌, ℕ, ◌<◌, true, false, List, None, length, take, set, get_or, replicate, ap, inl, inr, arith}
+use Rattle.std.proofs.lemmas.List.{get_or-set_same, get_or-set_other}
 use Rattle.std.proofs.lemmas.Bool.{cases_eq}
 use Rattle.std.proofs.lemmas.Bool.Decides.{nat_tests}
 use Rattle.questions.specs.declared.best_first.Label.{Label}
@@ -50,6 +50,3 @@ pub blank_part : (i n : ℕ) (y : Label) → (y.value ≡ None) × (y.listed ≡
     (value_at (take i (replicate n y)) k ≡ None) × (listed_at (take i (replicate n y)) k ≡ false)
 blank_part i n y b k =
     rw (is_blank y b) (let e = part_of_copies i n k blank in (ap (λ (x : Label). x.value) e, ap (λ (x : Label). x.listed) e))
-
-pub length_part : (i n : ℕ) (y : Label) → i ≤ n → length (take i (replicate n y)) ≡ i
-length_part i n y h = omega (arith, length-take i (replicate n y), length-replicate n y)

@@ -1,5 +1,5 @@
 -- The search keeps: values are the best over walks that leave only listed keys.
-use Rattle.std.proofs.Common.{◌≡◌, ℕ, ◌<◌, Bool, true, false, ◌⊎◌, Some, None, Option, sym, refl, ap, ◌∙◌, subst, inl, inr, arith}
+use Rattle.std.proofs.Common.{◌≡◌, ℕ, ◌<◌, Bool, true, false, cond, ◌⊎◌, Some, None, Option, sym, refl, ap, ◌∙◌, subst, inl, inr, arith}
 use Rattle.std.proofs.lemmas.Bool.{cases_Bool, cases_eq}
 use Rattle.std.proofs.lemmas.Bool.Decides.{nat_tests}
 use Rattle.std.proofs.lemmas.Option.{none-some, same_Some}
@@ -23,6 +23,22 @@ pub record Searched (m : Scale) (g : Graph) (n s : ℕ) (L : ℕ → Bool) (d : 
   pub closed : (i j w v : ℕ) → L i ≡ true → d i ≡ Some v → g.edge i j ≡ Some w → (u : ℕ) × (d j ≡ Some u) × NoBetter m (m.extend v w) u
   -- no open key is better than a listed one
   pub ordered : (i j u v : ℕ) → L i ≡ true → d i ≡ Some u → j < n → Open L d j v → NoBetter m v u
+
+-- what is known for good of a key: its value once it is listed, before that none
+abbrev pub settled : (ℕ → Bool) → (ℕ → Option ℕ) → ℕ → Option ℕ
+settled L d k = cond (L k) (d k) None
+
+-- of a key that is not listed nothing is known for good
+pub settled_none : (L : ℕ → Bool) (d : ℕ → Option ℕ) (k : ℕ) → L k ≡ false → settled L d k ≡ None
+settled_none L d k h = grind arith
+
+-- once no key is open, every key is settled
+pub all_settled : {n : ℕ} {L : ℕ → Bool} {d : ℕ → Option ℕ} → ((k v : ℕ) → k < n → Open L d k v → ⊥) → (k : ℕ) → k < n → d k ≡ settled L d k
+all_settled {n} {L} {d} done k l = at (d k) refl
+  where
+    at : (x : Option ℕ) → d k ≡ x → d k ≡ settled L d k
+    at None e = elim (cases_Bool (L k)) [ inl h ↦ grind arith | inr h ↦ grind arith ]
+    at (Some v) e = elim (cases_Bool (L k)) [ inl h ↦ grind arith | inr h ↦ absurd (done k v l (e, h)) ]
 
 -- what an offer over an edge does
 data Offer (m : Scale) (v : ℕ) (x o y : Option ℕ) : Type 0 where
@@ -116,6 +132,19 @@ module _ {m : Scale} (law : Lawful m) (g : Graph) {n : ℕ} (inside : Inside g n
           | no_edge o y ↦ y
           | kept w x o z y b ↦ y
           | taken w o y c ↦ absurd (let t = law.transitive _ _ _ (law.never_better v w) a in let b = c u e in grind arith)
+        ]
+
+    -- the key that is listed is settled
+    pub settles : settled K f k ≡ Some v
+    settles = let a = now_listed in let b = fixed k now_listed in let c = picked.1.0 in cc
+
+    -- and no other key is
+    pub settles_none : (j : ℕ) → (j ≡ k → ⊥) → settled K f j ≡ settled L d j
+    settles_none j h =
+        let e = lists j in
+        elim (cases_Bool (K j)) [
+          | inl y ↦ (let a = fixed j y in grind (arith, nat_tests))
+          | inr y ↦ grind (arith, nat_tests)
         ]
 
     improves : (j u : ℕ) → j < n → d j ≡ Some u → (x : ℕ) × (f j ≡ Some x) × NoBetter m u x

@@ -41,7 +41,7 @@ offered m v (Some u) (Some w) = Some (if m.better (m.extend v w) u then m.extend
 abbrev pub Relaxed : Scale → Graph → ℕ → ℕ → ℕ → (ℕ → Option ℕ) → (ℕ → Option ℕ) → Type 0
 Relaxed m g v k n d e = (j : ℕ) → e j ≡ (if nat_lt j n then offered m v (d j) (g.edge k j) else d j)
 
--- the values of the first n labels stand in the area, in its form, and past them what it held before
-pub record Written {A : Type 0} (Form : Option ℕ → A → Type 0) (labels : List Label) (n : ℕ) (old new : List A) : Type 0 where
-  pub front : (k : ℕ) → k < n → (y : A) × (slice_get new k ≡ Some y) × Form (value_at labels k) y
+-- the values of the keys below n stand in the area, in its form, and past them what it held before
+pub record Written {A : Type 0} (Form : Option ℕ → A → Type 0) (d : ℕ → Option ℕ) (n : ℕ) (old new : List A) : Type 0 where
+  pub front : (k : ℕ) → k < n → (y : A) × (slice_get new k ≡ Some y) × Form (d k) y
   pub others : (k : ℕ) → n ≤ k → slice_get new k ≡ slice_get old k

@@ -15,7 +15,7 @@ abbrev pub session_of : {M : Type 0} {m : _} → (M → List ℕ) → Session M 
 session_of cells_of (session.Closed m) = Shut (cells_of m)
 session_of cells_of (session.Open r) = Running (state_of cells_of r)
 
--- the state of the session in a place; where none is there, no memory is
+-- the state of the session in a slot; where none is there, no memory is
 abbrev pub session_in : {M : Type 0} {m : _} → (M → List ℕ) → Option (Session M m) → SessionState
 session_in cells_of (Some s) = session_of cells_of s
 session_in cells_of None = Shut []

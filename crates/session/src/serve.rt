@@ -45,43 +45,43 @@ fn reply_open<M: CellMemory>(
     answer_open(run, frame, out, at).unwrap_or(at)
 }
 
-// Replies as `reply_open` does, whether or not a run is open: takes out what is in the place, and puts back what is there after.
+// Replies as `reply_open` does, whether or not a run is open: takes out what is in the slot, and puts back what is there after.
 fn reply_moved<M: CellMemory + Drop>(
-    place: &mut Option<Session<M>>,
+    slot: &mut Option<Session<M>>,
     frame: Result<Frame, Refusal>,
     out: &mut [u8],
     at: usize,
 ) -> usize
     requires room { at + 32901 ≤ length out.old }
-    requires there { IsSome place.old }
-    ensures written { Written (session_in M.cells place.old) frame at out.old out.new result (session_in M.cells place.new) }
-    ensures there { IsSome place.new }
+    requires there { IsSome slot.old }
+    ensures written { Written (session_in M.cells slot.old) frame at out.old out.new result (session_in M.cells slot.new) }
+    ensures there { IsSome slot.new }
 {
-    let Some(session) = place.take() else {
+    let Some(session) = slot.take() else {
         return at;
     };
     let answered = answer(session, frame, out, at);
-    *place = Some(answered.session);
+    *slot = Some(answered.session);
     // There is always an end.
     answered.end.unwrap_or(at)
 }
 
 // The same, where a run stays where it is: it has some thousands of bytes, which take longer to move than most lines to reply to.
 fn reply<M: CellMemory + Drop>(
-    place: &mut Option<Session<M>>,
+    slot: &mut Option<Session<M>>,
     frame: Result<Frame, Refusal>,
     out: &mut [u8],
     at: usize,
 ) -> usize
     requires room { at + 32901 ≤ length out.old }
-    requires there { IsSome place.old }
-    ensures written { Written (session_in M.cells place.old) frame at out.old out.new result (session_in M.cells place.new) }
-    ensures there { IsSome place.new }
+    requires there { IsSome slot.old }
+    ensures written { Written (session_in M.cells slot.old) frame at out.old out.new result (session_in M.cells slot.new) }
+    ensures there { IsSome slot.new }
 {
-    if let Some(Session::Open(run)) = place {
+    if let Some(Session::Open(run)) = slot {
         reply_open(run, frame, out, at)
     } else {
-        reply_moved(place, frame, out, at)
+        reply_moved(slot, frame, out, at)
     }
 }
 
@@ -119,15 +119,15 @@ struct TakenIn {
 
 // Takes in bytes as long as the area has room for a reply, and replies to each line that ends.
 fn take_in<M: CellMemory + Drop>(
-    place: &mut Option<Session<M>>,
+    slot: &mut Option<Session<M>>,
     held: &mut Held,
     bytes: &[u8],
     out: &mut [u8],
 ) -> TakenIn
     requires room { 32901 ≤ length out.old }
-    requires there { IsSome place.old }
-    ensures carries { Carries (session_in M.cells place.old) held.old (take result.used bytes.now) held.new (take result.end out.new) (session_in M.cells place.new) }
-    ensures there { IsSome place.new }
+    requires there { IsSome slot.old }
+    ensures carries { Carries (session_in M.cells slot.old) held.old (take result.used bytes.now) held.new (take result.end out.new) (session_in M.cells slot.new) }
+    ensures there { IsSome slot.new }
     ensures used { result.used ≤ length bytes.now }
     ensures end { result.end ≤ length out.new }
     ensures some { result.used ≡ 0 → length bytes.now ≡ 0 }
@@ -141,7 +141,7 @@ fn take_in<M: CellMemory + Drop>(
         let byte = bytes[used];
         used += 1;
         if byte == LINE_FEED {
-            end = reply(place, parse(held.as_slice()), out, end);
+            end = reply(slot, parse(held.as_slice()), out, end);
             *held = Held::new();
         } else {
             used += hold(held, byte, &bytes[used..]);
@@ -181,21 +181,21 @@ fn write_whole<W: Write>(output: &mut W, bytes: &[u8]) -> io::Result<()>
 
 // Takes in bytes and writes the replies to the lines that end.
 fn pass_on<M: CellMemory + Drop, W: Write>(
-    place: &mut Option<Session<M>>,
+    slot: &mut Option<Session<M>>,
     held: &mut Held,
     bytes: &[u8],
     out: &mut [u8],
     output: &mut W,
 ) -> io::Result<()>
     requires room { 32901 ≤ length out.old }
-    requires there { IsSome place.old }
-    ensures ok { IfOk result (λ n. Passes (session_in M.cells place.old) held.old bytes.now held.new (W.contents output.old) (W.contents output.new) (session_in M.cells place.new)) }
-    ensures err { IfErr result (λ e. Breaks (session_in M.cells place.old) held.old bytes.now (W.contents output.old) (W.contents output.new)) }
-    ensures there { IsSome place.new }
+    requires there { IsSome slot.old }
+    ensures ok { IfOk result (λ n. Passes (session_in M.cells slot.old) held.old bytes.now held.new (W.contents output.old) (W.contents output.new) (session_in M.cells slot.new)) }
+    ensures err { IfErr result (λ e. Breaks (session_in M.cells slot.old) held.old bytes.now (W.contents output.old) (W.contents output.new)) }
+    ensures there { IsSome slot.new }
 {
     let mut rest = bytes;
     while !rest.is_empty() {
-        let taken = take_in(place, held, rest, out);
+        let taken = take_in(slot, held, rest, out);
         write_whole(output, &out[..taken.end])?;
         rest = &rest[taken.used..];
     }
@@ -204,20 +204,20 @@ fn pass_on<M: CellMemory + Drop, W: Write>(
 
 // Replies to the last line, which has no line feed, where there is one.
 fn finish<M: CellMemory + Drop, W: Write>(
-    place: &mut Option<Session<M>>,
+    slot: &mut Option<Session<M>>,
     held: &Held,
     out: &mut [u8],
     output: &mut W,
 ) -> io::Result<()>
     requires room { 32901 ≤ length out.old }
-    requires there { IsSome place.old }
-    ensures { Finishes (session_in M.cells place.old) held.now (W.contents output.old) (W.contents output.new) result }
+    requires there { IsSome slot.old }
+    ensures { Finishes (session_in M.cells slot.old) held.now (W.contents output.old) (W.contents output.new) result }
 {
     let line = held.as_slice();
     if line.is_empty() {
         return Ok(());
     }
-    let end = reply(place, parse(line), out, 0);
+    let end = reply(slot, parse(line), out, 0);
     write_whole(output, &out[..end])
 }
 
@@ -258,7 +258,7 @@ pub fn serve_lines<M: CellMemory + Drop, R: Read, W: Write>(
 ) -> Result<(), ServeError>
     ensures { Serves (Waiting (M.cells memory)) (R.remaining input.old) (R.remaining input.new) (W.contents output.old) (W.contents output.new) result }
 {
-    let mut place = Some(Session::Closed(memory));
+    let mut slot = Some(Session::Closed(memory));
     let mut held = Held::new();
     let mut chunk = [0; 4096];
     // Room for the replies to the lines of a chunk that ask for no page, and for a page.
@@ -270,12 +270,12 @@ pub fn serve_lines<M: CellMemory + Drop, R: Read, W: Write>(
             Err(e) => return Err(ServeError::Read(e)),
         };
         if got.ended {
-            return match finish(&mut place, &held, &mut out, output) {
+            return match finish(&mut slot, &held, &mut out, output) {
                 Ok(()) => Ok(()),
                 Err(e) => Err(ServeError::Write(e)),
             };
         }
-        match pass_on(&mut place, &mut held, &chunk[..got.len], &mut out, output) {
+        match pass_on(&mut slot, &mut held, &chunk[..got.len], &mut out, output) {
             Ok(()) => {}
             Err(e) => return Err(ServeError::Write(e)),
         }

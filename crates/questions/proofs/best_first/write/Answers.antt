@@ -1,9 +1,0 @@
-use Rattle.std.proofs.Common.{rules}
-use Rattle.std.proofs.lemmas.List.{length-set}
-use Rattle.questions.proofs.Writing.{slice_get-set_same, slice_get-set_other, written_more}
-use Rattle.questions.proofs.best_first.write.Goals as goal
-
-pub loop-k-preserved : goal.loop-k-preserved
-loop-k-preserved g c =
-    written_more c.args.labels.now c.loop-k.k c.args.out.now c.loop-k.out _ c.loop-k.invariant (λ j apart. search (rules, slice_get-set_other))
-    (search (rules, slice_get-set_same, length-set))

@@ -1,5 +1,0 @@
-use Rattle.questions.specs.Search.{Written}
-use Rattle.questions.proofs.best_first.write.Given as goal
-
-abbrev pub invariant-loop-k : goal.invariant-loop-k
-invariant-loop-k g l = Written g.T.From.from_gives l.labels l.k l.initial.out l.out
