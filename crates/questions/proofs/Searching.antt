@@ -24,19 +24,19 @@ pub record Searched (m : Scale) (g : Graph) (n s : ℕ) (L : ℕ → Bool) (d : 
   -- no open key is better than a listed one
   pub ordered : (i j u v : ℕ) → L i ≡ true → d i ≡ Some u → j < n → Open L d j v → NoBetter m v u
 
--- what is known for good of a key: its value once it is listed, before that none
-abbrev pub settled : (ℕ → Bool) → (ℕ → Option ℕ) → ℕ → Option ℕ
-settled L d k = cond (L k) (d k) None
+-- the value of a key once it is listed, before that none
+abbrev pub listed_value : (ℕ → Bool) → (ℕ → Option ℕ) → ℕ → Option ℕ
+listed_value L d k = cond (L k) (d k) None
 
--- of a key that is not listed nothing is known for good
-pub settled_none : (L : ℕ → Bool) (d : ℕ → Option ℕ) (k : ℕ) → L k ≡ false → settled L d k ≡ None
-settled_none L d k h = grind arith
+-- a key that is not listed has none
+pub unlisted_none : (L : ℕ → Bool) (d : ℕ → Option ℕ) (k : ℕ) → L k ≡ false → listed_value L d k ≡ None
+unlisted_none L d k h = grind arith
 
--- once no key is open, every key is settled
-pub all_settled : {n : ℕ} {L : ℕ → Bool} {d : ℕ → Option ℕ} → ((k v : ℕ) → k < n → Open L d k v → ⊥) → (k : ℕ) → k < n → d k ≡ settled L d k
-all_settled {n} {L} {d} done k l = at (d k) refl
+-- once no key is open, each key with a value is listed
+pub all_listed : {n : ℕ} {L : ℕ → Bool} {d : ℕ → Option ℕ} → ((k v : ℕ) → k < n → Open L d k v → ⊥) → (k : ℕ) → k < n → d k ≡ listed_value L d k
+all_listed {n} {L} {d} done k l = at (d k) refl
   where
-    at : (x : Option ℕ) → d k ≡ x → d k ≡ settled L d k
+    at : (x : Option ℕ) → d k ≡ x → d k ≡ listed_value L d k
     at None e = elim (cases_Bool (L k)) [ inl h ↦ grind arith | inr h ↦ grind arith ]
     at (Some v) e = elim (cases_Bool (L k)) [ inl h ↦ grind arith | inr h ↦ absurd (done k v l (e, h)) ]
 
@@ -134,13 +134,13 @@ module _ {m : Scale} (law : Lawful m) (g : Graph) {n : ℕ} (inside : Inside g n
           | taken w o y c ↦ absurd (let t = law.transitive _ _ _ (law.never_better v w) a in let b = c u e in grind arith)
         ]
 
-    -- the key that is listed is settled
-    pub settles : settled K f k ≡ Some v
-    settles = let a = now_listed in let b = fixed k now_listed in let c = picked.1.0 in cc
+    -- the key that is listed now has the value that was picked
+    pub picked_value : listed_value K f k ≡ Some v
+    picked_value = let a = now_listed in let b = fixed k now_listed in let c = picked.1.0 in cc
 
-    -- and no other key is
-    pub settles_none : (j : ℕ) → (j ≡ k → ⊥) → settled K f j ≡ settled L d j
-    settles_none j h =
+    -- and the other keys have what they had
+    pub others_stay : (j : ℕ) → (j ≡ k → ⊥) → listed_value K f j ≡ listed_value L d j
+    others_stay j h =
         let e = lists j in
         elim (cases_Bool (K j)) [
           | inl y ↦ (let a = fixed j y in grind (arith, nat_tests))

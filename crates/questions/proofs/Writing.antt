@@ -47,10 +47,15 @@ module _ {A : Type 0} (Form : Option ℕ → A → Type 0) where
     others = λ j h. (stays j (λ z. omega arith) ∙ w.others j h);
   }
 
+  -- what stands for values stands for the same ones
+  fronts : (d e : ℕ → Option ℕ) (n : ℕ) (new : List A) → ((k : ℕ) → k < n → e k ≡ d k) → ((k : ℕ) → k < n → (y : A) × (slice_get new k ≡ Some y) × Form (d k) y) →
+      (k : ℕ) → k < n → (y : A) × (slice_get new k ≡ Some y) × Form (e k) y
+  fronts d e n new same w k h = let (y, is, f) = w k h in (y, is, subst (λ v. Form v y) (sym (same k h)) f)
+
   -- the values stand in what was written
   pub written_self : (d e : ℕ → Option ℕ) (n : ℕ) (old new : List A) → Written Form d n old new → ((k : ℕ) → e k ≡ d k) → Written Form e n new new
   written_self d e n old new w same = record {
-    front = λ k h. (let (y, is, f) = w.front k h in (y, is, subst (λ v. Form v y) (sym (same k)) f));
+    front = fronts d e n new (λ k h. same k) w.front;
     others = λ k h. refl;
   }
 
@@ -58,6 +63,6 @@ module _ {A : Type 0} (Form : Option ℕ → A → Type 0) where
   pub written_over : (c d e : ℕ → Option ℕ) (n : ℕ) (old now new : List A) → Written Form c n old now → Written Form d n now new →
       ((k : ℕ) → k < n → e k ≡ d k) → Written Form e n old new
   written_over c d e n old now new v w same = record {
-    front = λ k h. (let (y, is, f) = w.front k h in (y, is, subst (λ v. Form v y) (sym (same k h)) f));
+    front = fronts d e n new same w.front;
     others = λ k h. (w.others k h ∙ v.others k h);
   }

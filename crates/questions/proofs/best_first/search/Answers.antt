@@ -4,7 +4,7 @@ use Rattle.questions.specs.declared.best_first.Label.{Label}
 use Rattle.questions.specs.Search.{value_at, listed_at}
 use Rattle.questions.proofs.Counting.{Lists, unlisted_less}
 use Rattle.questions.proofs.Labels.{value_same, value_other, flags_stay, values_stay, lists}
-use Rattle.questions.proofs.Searching.{settled, settled_none, relaxed_from, begun, step, settles, settles_none, finished, all_settled}
+use Rattle.questions.proofs.Searching.{listed_value, unlisted_none, relaxed_from, begun, step, picked_value, others_stay, finished, all_listed}
 use Rattle.questions.proofs.Writing.{slice_get-set_same, slice_get-set_other, written_at, written_self, written_over}
 use Rattle.questions.proofs.best_first.search.Goals as goal
 
@@ -18,8 +18,8 @@ loop-k-init g c =
       begun g.met.M.Measure.lawful (g.G.GraphView.graph c.args.page.now) c.len-n.ensures.inside (omega arith) none-listed
           (λ k h. value_other xs s y k h ∙ (c.requires.blank k).0)
           (value_same xs s y l ∙ ap Some c.first.ensures),
-      written_self g.T.From.from_gives (λ k. None) (settled (listed_at ys) (value_at ys)) c.len-n.result c.args.out.now c.write_none.new.out c.write_none.ensures
-          (λ k. settled_none (listed_at ys) (value_at ys) k (none-listed k)),
+      written_self g.T.From.from_gives (λ k. None) (listed_value (listed_at ys) (value_at ys)) c.len-n.result c.args.out.now c.write_none.new.out c.write_none.ensures
+          (λ k. unlisted_none (listed_at ys) (value_at ys) k (none-listed k)),
     )
 
 pub loop-k-smaller : goal.loop-k-smaller
@@ -39,9 +39,9 @@ loop-k-preserved g c =
     (values_stay xs k (record { value = value_at xs k; listed = true }) l refl) c.relax.ensures.values in
     let room : k < length c.loop-k.out = omega (arith, n, c.loop-k.auto.out, c.write_none.auto.out, c.requires.area, c.len-n.ensures.same) in
     let law = g.met.M.Measure.lawful in let q = c.loop-k.invariant.0 in let inside = c.len-n.ensures.inside in
-    let d = settled (listed_at xs) (value_at xs) in let e = settled (listed_at ys) (value_at ys) in
-    let at-k = settles law (g.G.GraphView.graph c.args.page.now) inside q k c.in-Some.value (rw n at p) (listed_at ys) lists-k (value_at ys) relaxed in
-    let at-j = settles_none law (g.G.GraphView.graph c.args.page.now) inside q k c.in-Some.value (rw n at p) (listed_at ys) lists-k (value_at ys) relaxed in (
+    let d = listed_value (listed_at xs) (value_at xs) in let e = listed_value (listed_at ys) (value_at ys) in
+    let at-k = picked_value law (g.G.GraphView.graph c.args.page.now) inside q k c.in-Some.value (rw n at p) (listed_at ys) lists-k (value_at ys) relaxed in
+    let at-j = others_stay law (g.G.GraphView.graph c.args.page.now) inside q k c.in-Some.value (rw n at p) (listed_at ys) lists-k (value_at ys) relaxed in (
       step law (g.G.GraphView.graph c.args.page.now) inside q k c.in-Some.value (rw n at p) (listed_at ys) lists-k (value_at ys) relaxed,
       written_at g.T.From.from_gives d e k c.len-n.result c.write_none.new.out c.loop-k.out _ c.loop-k.invariant.1 (omega (arith, n)) at-j
           (λ j apart. search (rules, slice_get-set_other)) at-k (search (rules, slice_get-set_same, room)),
@@ -58,5 +58,5 @@ returns-clause-written g c =
     let n : length c.loop-k.labels ≡ c.len-n.result = c.loop-k.auto.labels ∙ length-set _ _ _ ∙ omega arith in
     let done = c.in_default.ensures in
     let e = written_over g.T.From.from_gives (λ k. None) _ (value_at c.loop-k.labels) c.len-n.result c.args.out.now c.write_none.new.out c.loop-k.out
-    c.write_none.ensures c.loop-k.invariant.1 (all_settled (rw n at done)) in
+    c.write_none.ensures c.loop-k.invariant.1 (all_listed (rw n at done)) in
     rw (sym c.len-n.ensures.same) e
